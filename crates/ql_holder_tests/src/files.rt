@@ -1,7 +1,7 @@
 use crate::two_effects::{push_held, push_why, two_effects};
 use ql_base::NoMemory;
 use ql_disk::{Disk, MemDisk};
-use ql_journal::recover;
+use ql_journal::Station;
 use ql_plain_holder::PlainHolder;
 use ql_tables::{check_table, number};
 use ql_test_effects::id_set;
@@ -58,7 +58,7 @@ fn recovered(alloc: Global, bytes: &[u8]) -> Result<Vec<u8>, NoMemory> {
         let _ = disk.write_at(0, bytes);
     }
     let mut out = Vec::new(alloc);
-    match recover::<PlainHolder, MemDisk>(alloc, &mut disk, &execution, &committed) {
+    match Station::<PlainHolder>::recover(alloc, &mut disk, &execution, &committed) {
         Ok(station) => push_held(&mut out, station.holder(), execution.len())?,
         Err(why) => push_why(&mut out, why)?,
     }

@@ -7,7 +7,7 @@ use ql_base::{NoMemory, push_bytes};
 use ql_disk::MemDisk;
 use ql_exec::Execution;
 use ql_holder::Holder;
-use ql_journal::{Station, StationWhy, create, recover};
+use ql_journal::{Station, StationWhy};
 use ql_plain_holder::{PlainHolder, package_of};
 use ql_tables::{check_table, number};
 use ql_test_effects::id_set;
@@ -44,7 +44,7 @@ fn stopped(alloc: Global, cut: u64, keep: bool) -> Result<Vec<u8>, NoMemory> {
     let execution = two_effects(alloc)?;
     let mut disk = MemDisk::new(alloc, 100, cut)?;
     let mut out = Vec::new(alloc);
-    match create::<PlainHolder, MemDisk>(alloc, &mut disk) {
+    match Station::<PlainHolder>::create(alloc, &mut disk) {
         Ok(mut station) => {
             let answer = journal(alloc, &mut station, &mut disk, &execution);
             match answer {
@@ -110,7 +110,7 @@ fn push_recovered(
     x: &Execution,
 ) -> Result<(), NoMemory> {
     let committed = id_set(alloc, &[1, 2])?;
-    match recover::<PlainHolder, MemDisk>(alloc, disk, x, &committed) {
+    match Station::<PlainHolder>::recover(alloc, disk, x, &committed) {
         Ok(station) => push_held(out, station.holder(), x.len()),
         Err(why) => push_why(out, why),
     }

@@ -12,5 +12,5 @@ mod station;
 mod why;
 mod writing;
 
-pub use station::{Station, create, recover};
+pub use station::Station;
 pub use why::StationWhy;

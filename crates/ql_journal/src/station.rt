@@ -51,74 +51,74 @@ pub struct Station<H: Holder> {
     stopped: bool,
 }
 
-/// A station that has received nothing, on an empty disk. It writes the closed gate, and allocates nothing.
-pub fn create<H: Holder, D: Disk>(alloc: Global, disk: &mut D) -> Result<Station<H>, StationWhy>
-    requires { D.reports → (D.held disk.old).content ≡ [] }
-    ensures nothing { IfOk result (λ station. H.received (holder_of station) ≡ []) }
-    ensures fits { IfOk result (λ station. (x : List Effect) → H.fits (holder_of station) x) }
-    ensures start { IfOk result (λ station. (end_of station ≡ 0) × (is_stopped station ≡ false)) }
-    ensures agrees { D.reports → IfOk result (Agrees H.received (D.held disk.new)) }
-    ensures cause { IfErr result (λ cause. cause ≡ why.Failed) }
-    ensures failed { OnErr result (Rose (D.faults disk.old) (D.faults disk.new)) }
-    ensures count_stays { D.faults disk.old ≤ D.faults disk.new }
-    ensures foretold { IfSome (D.forecast disk.old)
-        (λ f. Foretold f 2 1 (is_ok result) (D.forecast disk.new)) }
-{
-    disk.write_at(0, &[0])?;
-    disk.sync()?;
-    Ok(Station {
-        alloc,
-        holder: H::empty(alloc),
-        end: 0,
-        stopped: false,
-    })
-}
-
-/// The station of a disk's records, after a stop. It syncs first, and writes nothing.
-pub fn recover<H: Holder, D: Disk>(
-    alloc: Global,
-    disk: &mut D,
-    x: &Execution,
-    committed: &IdSet,
-) -> Result<Station<H>, StationWhy>
-    // What the result means for the file.
-    ensures recovers { D.reports
-        → Recovers (λ station. Received H.received x.now committed.now (D.held disk.old).content
-        (holder_of station) (end_of station))
-        x.now committed.now (D.held disk.old).content result }
-
-    // Which files have which result.
-    ensures sound { D.reports → (records : List (List ℕ)) → AreKnown x.now committed.now records
-        → HasRecords records (D.held disk.old).content → IsSound result }
-    ensures damaged { D.reports → (at : ℕ)
-        → IsDamaged x.now committed.now (D.held disk.old).content at
-        → ReportsUnlessNone (why.Damaged at) result }
-    ensures strange { D.reports → (at : ℕ)
-        → IsStranger x.now committed.now (D.held disk.old).content at
-        → ReportsUnlessNone (why.Stranger at) result }
-    ensures fits { IfOk result (λ station. H.fits (holder_of station) x.now) }
-    ensures start { IfOk result (λ station. is_stopped station ≡ false) }
-    ensures agrees { D.reports → IfOk result (Agrees H.received (D.held disk.new)) }
-    ensures content { D.reports → (D.held disk.new).content ≡ (D.held disk.old).content }
-    ensures causes { IfErr result IsOfRecovery }
-    ensures failed { IsErrOf result why.Failed → Rose (D.faults disk.old) (D.faults disk.new) }
-    ensures count_stays { D.faults disk.old ≤ D.faults disk.new }
-    ensures foretold { IfSome (D.forecast disk.old)
-        (λ f. 1 ≤ f.calls → IsErrOf result why.Failed → ⊥) }
-{
-    let bytes = read_file(alloc, disk)?;
-    match received_in(alloc, &bytes, x, committed) {
-        Err(why) => Err(why),
-        Ok((holder, end)) => Ok(Station {
-            alloc,
-            holder,
-            end,
-            stopped: false,
-        }),
-    }
-}
-
 impl<H: Holder> Station<H> {
+    /// A station that has received nothing, on an empty disk. It writes the closed gate, and allocates nothing.
+    pub fn create<D: Disk>(alloc: Global, disk: &mut D) -> Result<Station<H>, StationWhy>
+        requires { D.reports → (D.held disk.old).content ≡ [] }
+        ensures nothing { IfOk result (λ station. H.received (holder_of station) ≡ []) }
+        ensures fits { IfOk result (λ station. (x : List Effect) → H.fits (holder_of station) x) }
+        ensures start { IfOk result (λ station. (end_of station ≡ 0) × (is_stopped station ≡ false)) }
+        ensures agrees { D.reports → IfOk result (Agrees H.received (D.held disk.new)) }
+        ensures cause { IfErr result (λ cause. cause ≡ why.Failed) }
+        ensures failed { OnErr result (Rose (D.faults disk.old) (D.faults disk.new)) }
+        ensures count_stays { D.faults disk.old ≤ D.faults disk.new }
+        ensures foretold { IfSome (D.forecast disk.old)
+            (λ f. Foretold f 2 1 (is_ok result) (D.forecast disk.new)) }
+    {
+        disk.write_at(0, &[0])?;
+        disk.sync()?;
+        Ok(Station {
+            alloc,
+            holder: H::empty(alloc),
+            end: 0,
+            stopped: false,
+        })
+    }
+
+    /// The station of a disk's records, after a stop. It syncs first, and writes nothing.
+    pub fn recover<D: Disk>(
+        alloc: Global,
+        disk: &mut D,
+        x: &Execution,
+        committed: &IdSet,
+    ) -> Result<Station<H>, StationWhy>
+        // What the result means for the file.
+        ensures recovers { D.reports
+            → Recovers (λ station. Received H.received x.now committed.now (D.held disk.old).content
+            (holder_of station) (end_of station))
+            x.now committed.now (D.held disk.old).content result }
+
+        // Which files have which result.
+        ensures sound { D.reports → (records : List (List ℕ)) → AreKnown x.now committed.now records
+            → HasRecords records (D.held disk.old).content → IsSound result }
+        ensures damaged { D.reports → (at : ℕ)
+            → IsDamaged x.now committed.now (D.held disk.old).content at
+            → ReportsUnlessNone (why.Damaged at) result }
+        ensures strange { D.reports → (at : ℕ)
+            → IsStranger x.now committed.now (D.held disk.old).content at
+            → ReportsUnlessNone (why.Stranger at) result }
+        ensures fits { IfOk result (λ station. H.fits (holder_of station) x.now) }
+        ensures start { IfOk result (λ station. is_stopped station ≡ false) }
+        ensures agrees { D.reports → IfOk result (Agrees H.received (D.held disk.new)) }
+        ensures content { D.reports → (D.held disk.new).content ≡ (D.held disk.old).content }
+        ensures causes { IfErr result IsOfRecovery }
+        ensures failed { IsErrOf result why.Failed → Rose (D.faults disk.old) (D.faults disk.new) }
+        ensures count_stays { D.faults disk.old ≤ D.faults disk.new }
+        ensures foretold { IfSome (D.forecast disk.old)
+            (λ f. 1 ≤ f.calls → IsErrOf result why.Failed → ⊥) }
+    {
+        let bytes = read_file(alloc, disk)?;
+        match received_in(alloc, &bytes, x, committed) {
+            Err(why) => Err(why),
+            Ok((holder, end)) => Ok(Station {
+                alloc,
+                holder,
+                end,
+                stopped: false,
+            }),
+        }
+    }
+
     /// What it received.
     pub fn holder(&self) -> &H
         ensures { result.now ≡ holder_of self.now }

@@ -8,7 +8,7 @@ use ql_base::{DeclId, EffId, IdSet, NoMemory, RunId};
 use ql_disk::{Disk, FileDisk};
 use ql_exec::{Execution, Member};
 use ql_holder::Holder;
-use ql_journal::{Station, StationWhy, create, recover};
+use ql_journal::{Station, StationWhy};
 use ql_plain_holder::package_of;
 use ql_replica::Replica;
 use ql_reply::Status;
@@ -81,7 +81,7 @@ fn journal<H: Holder, P: Print>(
     disk: &mut FileDisk,
     x: &Execution,
 ) -> io::Result<()> {
-    let mut station = match create::<H, FileDisk>(alloc, disk) {
+    let mut station = match Station::<H>::create(alloc, disk) {
         Ok(station) => station,
         Err(why) => return println!(out; "{why:?}"),
     };
@@ -135,7 +135,7 @@ fn recovered<H: Holder, D: Disk>(
     x: &Execution,
     committed: &IdSet,
 ) -> Result<Option<u32>, StationWhy> {
-    let station = recover::<H, D>(alloc, disk, x, committed)?;
+    let station = Station::<H>::recover(alloc, disk, x, committed)?;
     let mut last = 0;
     for id in 1..=x.len() {
         if station.holder().has(EffId(id)) {

@@ -11,7 +11,7 @@ use ql_base::{EffId, IdSet, NoMemory};
 use ql_disk::MemDisk;
 use ql_exec::Execution;
 use ql_holder::Holder;
-use ql_journal::{Station, StationWhy, create};
+use ql_journal::{Station, StationWhy};
 use ql_strong::package_of;
 use std::alloc::Global;
 
@@ -33,7 +33,7 @@ pub(crate) fn stopped_disk<H: Holder>(
         (content_of disk) × (1 ≤ calls_left disk))) }
 {
     let mut disk = MemDisk::new(alloc, ROOM, cut)?;
-    let Ok(station) = create::<H, MemDisk>(alloc, &mut disk) else {
+    let Ok(station) = Station::<H>::create(alloc, &mut disk) else {
         return Ok(None);
     };
     match journal_all(alloc, station, &mut disk, x, arrivals) {

@@ -13,7 +13,7 @@ use ql_base::{EffId, IdSet, NoMemory, push_bytes};
 use ql_disk::MemDisk;
 use ql_exec::Execution;
 use ql_holder::Holder;
-use ql_journal::{Station, StationWhy, recover};
+use ql_journal::{Station, StationWhy};
 use ql_run_text::push_ids;
 use ql_shim::applied_among;
 use ql_store::Store;
@@ -56,7 +56,7 @@ fn recovered<H: Holder>(
         (λ station. (records : List (List ℕ)) → HasRecords records (content_of disk.old)
         → (a : ℕ) → has_id (H.received (holder_of station)) a ≡ in_records records a) }
 {
-    match recover::<H, MemDisk>(alloc, disk, x, committed) {
+    match Station::<H>::recover(alloc, disk, x, committed) {
         Ok(station) => Ok(station),
         Err(StationWhy::NoMemory) => Err(NoMemory),
         Err(_) => unreachable!(),

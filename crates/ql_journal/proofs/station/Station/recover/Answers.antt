@@ -1,7 +1,7 @@
 use Rattle.std.proofs.Common.{List, ℕ, Err, Ok, ◌∙◌, subst}
 use Rattle.ql_journal.specs.Stations.{Received, Recovers}
 use Rattle.ql_journal.proofs.EndLaws.{sound, damaged, stranger}
-use Rattle.ql_journal.proofs.station.recover.Goals as goal
+use Rattle.ql_journal.proofs.station.Station.recover.Goals as goal
 
 abbrev Nothing : Unit {0} → Type 0
 Nothing u = ⊥
