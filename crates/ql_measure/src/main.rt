@@ -3,10 +3,8 @@
 #![tactic(auto)]
 
 mod batch;
-mod calls;
 mod dimacs;
 mod problems;
-mod receipts;
 mod reprint;
 mod reprint_schedule;
 mod solve;
@@ -20,9 +18,7 @@ use std::process::ExitCode;
 // The most bytes of a source, and of a schedule.
 const MOST_BYTES: usize = 1 << 20;
 
-const USAGE: &str = "usage: ql_measure calls
-       ql_measure receipts [reverse]
-       ql_measure stops (journal | recover) FILE
+const USAGE: &str = "usage: ql_measure stops (journal | recover) FILE
        ql_measure reprint [--check] FILE ..
        ql_measure reprint_schedule SOURCE FILE ..
        ql_measure problems [--clauses] FILE ..
@@ -44,8 +40,6 @@ fn measure(rt: &HostRuntime, words: &[String]) -> io::Result<Status> {
         return print_usage(rt);
     };
     match name.as_str() {
-        "calls" => calls::measure(rt),
-        "receipts" => receipts::measure(rt, rest),
         "stops" => stops::measure(rt, rest),
         "reprint" => reprint::measure(rt, rest),
         "reprint_schedule" => reprint_schedule::measure(rt, rest),
