@@ -1,8 +1,7 @@
 -- Clause lists that grow by one group of clauses after another.
 use Rattle.std.proofs.lemmas.List.{map_more, map-append, take_more_set}
 use Rattle.std.proofs.Math.ListN.{set}
-use Rattle.std.proofs.Math.Nat.{pow-suc, suc-mul, mul-le-mul_right, mul_comm, pow-le-pow_left, pow-le-pow_right}
-use Rattle.std.proofs.Common.{◌≡◌, ℕ, zero, suc, ◌+◌, ◌-◌, ◌*◌, ◌^◌, ◌<◌, ◌≤◌, arith, length, get_or, take, map, List, [], ◌∷◌, ◌++◌, refl, sym, ◌∙◌, ap, append-nil, append_assoc, add-one}
+use Rattle.std.proofs.Common.{◌≡◌, ℕ, zero, suc, ◌+◌, ◌-◌, ◌<◌, arith, length, get_or, take, map, List, [], ◌∷◌, ◌++◌, refl, sym, ◌∙◌, ap, append-nil, append_assoc, add-one}
 use Rattle.ql_atoms.specs.Atoms.{Size}
 use Rattle.ql_cnf.specs.declared.lit.Lit.{Lit}
 use Rattle.ql_cnf.specs.Circuits.{Circuit, Input, Both, clauses_of}

@@ -5,7 +5,6 @@ use Rattle.std.proofs.lemmas.Nat.{mul-add-lt}
 use Rattle.ql_atoms.specs.declared.atoms.Atom.{Atom}
 use Rattle.ql_atoms.specs.declared.atoms.Atom.TheVariants.{Pair, Current, Is}
 use Rattle.ql_atoms.specs.declared.atoms.PairKind.{PairKind}
-use Rattle.ql_atoms.specs.declared.atoms.PairKind.TheVariants.{Eq, So, SameObj, Vis, Hbo, Hb, SameTxn}
 use Rattle.ql_atoms.specs.Atoms.{Size, Fits, kind_place, atom_place, number_of, count_of, relations_of}
 use Rattle.ql_atoms.proofs.Numbers.{counted, few_kinds, kind_at, kind_at-place}
 use Rattle.ql_cnf.specs.Satisfaction.{variable_value}

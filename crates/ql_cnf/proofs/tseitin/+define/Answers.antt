@@ -1,6 +1,6 @@
 use Rattle.std.proofs.Common.{◌≡◌, ◌+◌, ◌++◌, suc, arith, refl}
 use Rattle.std.proofs.lemmas.Result.{on_ok_weaker}
-use Rattle.ql_cnf.specs.Circuits.{circuit_of, gates, clauses_of, both_clauses, either_clauses, if_then_clauses}
+use Rattle.ql_cnf.specs.Circuits.{circuit_of, clauses_of, both_clauses, either_clauses, if_then_clauses}
 use Rattle.ql_cnf.proofs.CircuitLemmas.{nodes, inputs_more, gate_joined}
 use Rattle.ql_cnf.proofs.tseitin.+define.Goals as goal
 

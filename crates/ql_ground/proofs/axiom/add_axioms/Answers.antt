@@ -1,4 +1,4 @@
-use Rattle.std.proofs.Common.{arith, ◌∙◌}
+use Rattle.std.proofs.Common.{◌∙◌}
 use Rattle.ql_atoms.specs.Atoms.{size_of}
 use Rattle.ql_ground.specs.Parts.{axiom_of}
 use Rattle.ql_ground.proofs.Growth.{rules_more}

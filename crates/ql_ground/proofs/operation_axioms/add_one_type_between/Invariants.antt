@@ -1,4 +1,4 @@
-use Rattle.std.proofs.Common.{◌≡◌, ◌+◌, ◌*◌, ◌≤◌, ◌++◌, length}
+use Rattle.std.proofs.Common.{◌≡◌, ◌++◌}
 use Rattle.ql_atoms.specs.Atoms.{size_of}
 use Rattle.ql_cnf.specs.Circuits.{clauses_of}
 use Rattle.ql_base.specs.Ranges.{upto}
