@@ -1,13 +1,13 @@
 -- A summary of a run without joins counts each reply in one of its lines.
-use Rattle.std.proofs.Common.{◌≡◌, ℕ, suc, ◌+◌, List, [], ◌∷◌, length, codes, refl, arith}
+use Rattle.std.proofs.Common.{◌≡◌, ℕ, ◌+◌, List, ◌∷◌, length, codes, refl, arith}
 use Rattle.std.specs.List.{AllByRecursion}
 use Rattle.std.specs.Str.{bytes_eq}
 use Rattle.ql_machine.specs.declared.event.Event.{Event}
 use Rattle.ql_machine.specs.declared.reply.Reply.{Reply}
 use Rattle.ql_machine.specs.declared.reply.Reply.TheVariants as reply
-use Rattle.ql_machine.specs.Calls.{Call, IsCall, undeclared, unused, unavailable, held, blocked, makes, makes_strong, makes_own}
+use Rattle.ql_machine.specs.Calls.{IsCall, undeclared, unused, unavailable, held, blocked, makes, makes_strong, makes_own}
 use Rattle.ql_machine.specs.Deliveries.{IsDelivery, gone, cut, again, waits, applies}
-use Rattle.ql_machine.specs.Rules.{Rules}
+use Rattle.ql_machine.specs.Rules.{Call, Rules}
 use Rattle.ql_machine.specs.Runs.{Leads, stop, step}
 use Rattle.ql_machine.specs.State.{Machine}
 use Rattle.ql_machine.specs.Steps.{IsStep, calls, already_open, begins, none_open, commits, delivers, none_to_repeat, repeats, none_to_lose, loses, absent, resends, splits, heals, joins_copy, joins_bare}
