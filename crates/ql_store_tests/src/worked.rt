@@ -60,10 +60,6 @@ fn accounts(rt: HostRuntime) -> Result<(), Fail> {
     })
 }
 
-  op write(t: text): unit { contract true; answer unit; emit p: text = t when true; apply { v := p; } }
-  op read(): text { contract true; answer v; } }
-transaction both { uses write, read; contract true; }"#;
-
 // The replies to events, if replicas of both bodies reply alike.
 fn replied(
     alloc: Global,
