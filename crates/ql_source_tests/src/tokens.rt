@@ -28,26 +28,15 @@ a< =b -> n0-1 m1-2 m3-4 n4-5
 12 a -> i0-2 n3-4
 "" -> t0-2
 "a b" -> t0-5
-"a -> char 2
-"a␊" -> char 2
-"a\" -> char 2
 "xxxxxxxxxxxxxxxxxxxxxxxxxxxxxxxxxxxxxxxxxxxxxxxxxxxxxxxxxxxxxxxx" -> t0-66
-"xxxxxxxxxxxxxxxxxxxxxxxxxxxxxxxxxxxxxxxxxxxxxxxxxxxxxxxxxxxxxxxxx" -> word 0
-"xxxxxxxxxxxxxxxxxxxxxxxxxxxxxxxxxxxxxxxxxxxxxxxxxxxxxxxxxxxxxxxxx -> word 0
-"xxxxxxxxxxxxxxxxxxxxxxxxxxxxxxxxxxxxxxxxxxxxxxxxxxxxxxxxxxxxxxxx -> char 65
 aaaaaaaaaaaaaaaaaaaaaaaaaaaaaaaa -> n0-32
-aaaaaaaaaaaaaaaaaaaaaaaaaaaaaaaaa -> word 0
 #x␍y␊a -> n5-6
 a#ÿ -> n0-1
-a $ -> char 2
 sameobj -> k0-7
 x:int=0; -> n0-1 m1-2 k2-5 m5-6 i6-7 m7-8
 -5 -> m0-1 i1-2
 1.5 -> i0-1 m1-2 i2-3
-a␀ -> char 1
 transactiontransaction -> n0-22
-1048576 times [a] in ~ -> word 0
-1048576 times [0] in ~ -> number 0
 "#;
 
 #[test]
