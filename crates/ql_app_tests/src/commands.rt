@@ -9,49 +9,19 @@ use std::alloc::Global;
 use std::test::Fail;
 
 // The arguments; how many bytes a fetch and a put take, and which fetch and which put fail (0 for none); and a file
-// with its text. Then the exit status and what was written. Sessions see their own writes, lines end with or without a
-// carriage return, and the last line with or without a line feed.
+// with its text. Then the exit status and what was written.
 const ANSWERED: &str = r"
 holds own; 1 0 0; own: contract forall a. soo(a, cur) => vis(a, cur)␊at 2␊effect 1 x w session 1 vis␊effect 2 x w session 1 vis 1␊end␊ -> 0: holds␊
 holds lost; 1 0 0; lost: contract forall a. soo(a, cur) => vis(a, cur)␊at 2␊effect 1 x w session 1 vis␊effect 2 x w session 1 vis␊end␊ -> 1: fails a=1␊
-holds three; 1 0 0; three: contract forall c, a, b. vis(a, b) /\ so(b, c) => vis(a, c)␊at 1␊effect 1 x w session 1 vis␊effect 2 x w session 2 vis 1␊effect 3 x w session 2 vis 2␊effect 4 x r session 2 vis 2 3␊end␊ -> 1: fails c=3 a=1 b=2␊
-holds later; 1 0 0; later: contract forall a. soo(a, cur) => vis(a, cur)␊at 2␊effect 1 x w session 1 vis␊effect 2 x w session 1 vis 2␊end␊ -> 2: bad holds at 4: NotForward␊
-holds empty; 1 0 0; empty:  -> 2: bad holds at 1: Unexpected␊
-; 1 0 0; own: contract forall a. soo(a, cur) => vis(a, cur)␊at 2␊effect 1 x w session 1 vis␊effect 2 x w session 1 vis 1␊end␊ -> 5: usage␊
-holds -own; 1 0 0; own: contract forall a. soo(a, cur) => vis(a, cur)␊at 2␊effect 1 x w session 1 vis␊effect 2 x w session 1 vis 1␊end␊ -> 5: usage␊
-holds own own; 1 0 0; own: contract forall a. soo(a, cur) => vis(a, cur)␊at 2␊effect 1 x w session 1 vis␊effect 2 x w session 1 vis 1␊end␊ -> 5: usage␊
-holds other; 1 0 0; own: contract forall a. soo(a, cur) => vis(a, cur)␊at 2␊effect 1 x w session 1 vis␊effect 2 x w session 1 vis 1␊end␊ -> 3: read fault other␊
 holds own; 1 5 0; own: contract forall a. soo(a, cur) => vis(a, cur)␊at 2␊effect 1 x w session 1 vis␊effect 2 x w session 1 vis 1␊end␊ -> 3: read fault own␊
 holds own; 1 0 4; own: contract forall a. soo(a, cur) => vis(a, cur)␊at 2␊effect 1 x w session 1 vis␊effect 2 x w session 1 vis 1␊end␊ -> 4: hol
 proof accepted; 1 0 0; accepted: variables 2␊c 1 2␊c 1 -2␊c -1␊1 1 : c1 c2␊2 : l1 c3␊end␊ -> 0: accepted␊
-proof missing; 1 0 0; missing: variables 2␊c 1 2␊c 1 -2␊c -1␊1 1 : c1␊2 : l1 c3␊end␊ -> 1: refused 1 NoConflict␊
-proof early; 1 0 0; early: variables 2␊c 1 2␊c 1 -2␊c -1␊1 1 : c1 c2␊2 : c1 l1 c3␊end␊ -> 1: refused 2 NotUnit␊
-proof twice; 1 0 0; twice: variables 2␊c 1 2␊c 1 -2␊c -1␊1 1 : c1 c2␊1 : l1 c3␊end␊ -> 2: bad proof at 6: Number␊
 proof ends; 1 0 0; ends: variables 0␍␊c␍␊end -> 1: refused NoEmpty␊
 classify touch; 8 0 2; touch: type t { op touch(): unit { contract true; answer unit; } } -> 4: op touch
 classify --why touch; 1 0 0; touch: type t { op touch(): unit { contract true; answer unit; } } -> 0: op touch eventual␊
-classify --why; 1 0 0; touch: type t { op touch(): unit { contract true; answer unit; } } -> 5: usage␊
-classify touch --why; 1 0 0; touch: type t { op touch(): unit { contract true; answer unit; } } -> 5: usage␊
-classify --why touch touch; 1 0 0; touch: type t { op touch(): unit { contract true; answer unit; } } -> 5: usage␊
-prove --why touch; 1 0 0; touch: type t { op touch(): unit { contract true; answer unit; } } -> 5: usage␊
-classify --why -own; 1 0 0; touch: type t { op touch(): unit { contract true; answer unit; } } -> 5: usage␊
-classify --why other; 1 0 0; touch: type t { op touch(): unit { contract true; answer unit; } } -> 3: read fault other␊
 verify touch other; 1 0 0; touch: type t { op touch(): unit { contract true; answer unit; } } -> 3: read fault other␊
-verify own other; 1 0 0; touch: type t { op touch(): unit { contract true; answer unit; } } -> 3: read fault own␊
 gen touch 0 2; 1 0 0; touch: type t { op touch(): unit { contract true; answer unit; } } -> 0: quelea schedule 1␊replicas 3␊object o0_0 t␊object o0_1 t␊events␊call 0 at 1 o0_0 touch␊deliver 2␊
-gen touch 2147483648 2; 1 0 0; touch: type t { op touch(): unit { contract true; answer unit; } } -> 5: usage␊
-gen touch 0 4001; 1 0 0; touch: type t { op touch(): unit { contract true; answer unit; } } -> 5: usage␊
-gen touch 00 2; 1 0 0; touch: type t { op touch(): unit { contract true; answer unit; } } -> 5: usage␊
-gen touch 0 +2; 1 0 0; touch: type t { op touch(): unit { contract true; answer unit; } } -> 5: usage␊
-gen -touch 0 2; 1 0 0; touch: type t { op touch(): unit { contract true; answer unit; } } -> 5: usage␊
-gen touch 0; 1 0 0; touch: type t { op touch(): unit { contract true; answer unit; } } -> 5: usage␊
-soak touch; 1 0 0; touch: type t { op touch(): unit { contract true; answer unit; } } -> 5: usage␊
-soak touch 007; 1 0 0; touch: type t { op touch(): unit { contract true; answer unit; } } -> 5: usage␊
-soak touch 2147483648; 1 0 0; touch: type t { op touch(): unit { contract true; answer unit; } } -> 5: usage␊
-soak touch 7 7; 1 0 0; touch: type t { op touch(): unit { contract true; answer unit; } } -> 5: usage␊
-gen other 0 2; 1 0 0; touch: type t { op touch(): unit { contract true; answer unit; } } -> 3: read fault other␊
 gen bad 0 2; 1 0 0; bad: type -> 2: bad source at 4: Unexpected␊
-verify touch; 1 0 0; touch: type t { op touch(): unit { contract true; answer unit; } } -> 5: usage␊
 ";
 
 #[test]

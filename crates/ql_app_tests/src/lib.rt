@@ -1,5 +1,5 @@
-// Tests of the program's commands over files in memory, with answers from outside, and of the calls that the claims
-// are about. It has no contract of its own.
+// Tests of the program's commands over files in memory, of which a fetch or a put may fail, and of the calls that the
+// claims are about. The other answers of commands are in the folder `cases`. It has no contract of its own.
 #![tactic(auto)]
 
 #[cfg(test)]
@@ -7,18 +7,6 @@ mod asking;
 #[cfg(test)]
 mod calls;
 #[cfg(test)]
-mod certificates;
-#[cfg(test)]
 mod commands;
 #[cfg(test)]
 mod failing;
-#[cfg(test)]
-mod judging;
-#[cfg(test)]
-mod levels;
-#[cfg(test)]
-mod reasons;
-#[cfg(test)]
-mod running;
-#[cfg(test)]
-mod sources;

@@ -1,14 +1,11 @@
-// Tests of values, executions, evaluation and folders, with answers from outside: texts of values, what an
-// execution refuses, the values of expressions as the parser reads them, folds of calls, and applied
-// operations and typed folders of calls that see nothing.
+// Tests of values, executions and evaluation, with answers from outside: texts of values, what an execution refuses, values
+// of expressions whose names aren't declared, and folds of effects that no run sees.
 #![tactic(auto)]
 
 #[cfg(test)]
 mod executions;
 #[cfg(test)]
 mod expressions;
-#[cfg(test)]
-mod folders;
 #[cfg(test)]
 mod folds;
 #[cfg(test)]

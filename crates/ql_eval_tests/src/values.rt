@@ -1,9 +1,6 @@
 use ql_base::{NoMemory, push_bytes, push_number};
-use ql_tables::{check_table, field, spelled};
-use ql_value::{
-    MapVal, Scalar, SetVal, Value, ValueFault, add, order, parse_value, print_value, put, sat_add,
-    sat_mul, sat_neg, sat_sub, size,
-};
+use ql_tables::{check_table, spelled};
+use ql_value::{ValueFault, order, parse_value, print_value};
 use std::alloc::Global;
 use std::cmp::Ordering;
 use std::test::Fail;
@@ -99,64 +96,6 @@ fn read(alloc: Global, text: &str) -> Result<Vec<u8>, NoMemory> {
         }
         Err(ValueFault::NoMemory) => Err(NoMemory),
     }
-}
-
-// Numbers saturate at the ends of their range.
-const NUMBERS: &str = "
-sum 9223372036854775807 1 -> 9223372036854775807
-sum -9223372036854775808 -1 -> -9223372036854775808
-difference -9223372036854775808 1 -> -9223372036854775808
-difference 0 -9223372036854775808 -> 9223372036854775807
-product 9223372036854775807 -2 -> -9223372036854775808
-product 4294967296 4294967296 -> 9223372036854775807
-negation -9223372036854775808 -> 9223372036854775807
-";
-
-#[test]
-fn numbers_stay_at_the_ends_of_their_range(rt: HostRuntime) -> Result<(), Fail> {
-    check_table(rt.alloc(), NUMBERS, calculated)
-}
-
-fn calculated(alloc: Global, row: &str) -> Result<Vec<u8>, NoMemory> {
-    let a = field(row, 1).parse::<i64>().unwrap_or(0);
-    let b = field(row, 2).parse::<i64>().unwrap_or(0);
-    let mut out = Vec::new(alloc);
-    push_number(&mut out, by(field(row, 0), a, b))?;
-    Ok(out)
-}
-
-fn by(operator: &str, a: i64, b: i64) -> i64 {
-    match operator {
-        "sum" => sat_add(a, b),
-        "difference" => sat_sub(a, b),
-        "product" => sat_mul(a, b),
-        _ => sat_neg(a),
-    }
-}
-
-// How many entries a set and a map have after this many were added.
-const FILLED: &str = "
-256 -> 256 256
-300 -> 256 256
-";
-
-#[test]
-fn collections_stop_at_their_limit(rt: HostRuntime) -> Result<(), Fail> {
-    check_table(rt.alloc(), FILLED, filled)
-}
-
-fn filled(alloc: Global, row: &str) -> Result<Vec<u8>, NoMemory> {
-    let mut set = SetVal::of(Vec::new(alloc));
-    let mut map = MapVal::of(Vec::new(alloc));
-    for n in 0..row.parse::<i64>().unwrap_or(0) {
-        set = add(alloc, &set, &Scalar::Int(n))?;
-        map = put(alloc, &map, &Scalar::Int(n), &Scalar::Int(n))?;
-    }
-    let mut out = Vec::new(alloc);
-    push_number(&mut out, size(&Value::Set(set)))?;
-    push_bytes(&mut out, b" ")?;
-    push_number(&mut out, size(&Value::Map(map)))?;
-    Ok(out)
 }
 
 // Values are ordered by kind and content.

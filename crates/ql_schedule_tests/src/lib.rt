@@ -1,7 +1,5 @@
-// Tests of schedules over texts, those that are read and those that are generated, with answers from outside.
+// Tests of schedules over texts, each printed as it was read.
 #![tactic(auto)]
 
-#[cfg(test)]
-mod generated;
 #[cfg(test)]
 mod schedules;

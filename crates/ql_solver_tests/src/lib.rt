@@ -1,15 +1,11 @@
-// Tests of levels, clause lists, the solver, refutations and the files that hold them, with answers from outside.
+// Tests of levels, clause lists, and the solver with its refutations, with answers from outside.
 // No crate depends on this one.
 #![tactic(auto)]
 
 #[cfg(test)]
-mod certificates;
-#[cfg(test)]
 mod clauses;
 #[cfg(test)]
 mod levels;
-#[cfg(test)]
-mod refutations;
 #[cfg(test)]
 mod solver;
 #[cfg(test)]

@@ -62,7 +62,7 @@ fn clauses_in(alloc: Global, row: &str) -> Result<Clauses, NoMemory> {
     clauses_of(alloc, variables.parse::<u32>().unwrap_or(0), text)
 }
 
-// The answer, if it is right.
+// The answer, if it is right. A copy of the refutation is checked.
 fn judged(alloc: Global, clauses: &Clauses, decided: &Decided) -> Result<&'static str, NoMemory>
     requires { IsRight clauses.now decided.now }
 {
@@ -74,7 +74,8 @@ fn judged(alloc: Global, clauses: &Clauses, decided: &Decided) -> Result<&'stati
         }),
         Decided::Refuted(refutation) => {
             let mut marks = vec![in alloc; 7; clauses.variables() as usize + 1]?;
-            match check(clauses, refutation, &mut marks) {
+            let copy = refutation.copy(alloc)?;
+            match check(clauses, &copy, &mut marks) {
                 Verdict::Accepted => Ok("refuted"),
                 _ => Ok("not refuted"),
             }

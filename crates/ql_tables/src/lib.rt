@@ -10,5 +10,5 @@ mod table;
 
 pub use answers::{spelled, with_number};
 pub use fields::{field, id_set_of, number};
-pub use sources::{BANK, REGISTER, SHOP};
+pub use sources::{BANK, SHOP};
 pub use table::check_table;

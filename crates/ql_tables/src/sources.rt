@@ -1,4 +1,4 @@
-// Sources: three of examples/sources without their comments.
+// Sources: two of examples/sources without their comments.
 
 /// A bank account, with declared transactions.
 pub const BANK: &str = r"type account {
@@ -44,10 +44,3 @@ transaction follow { uses show, add_item; contract forall a, b, c, d.
 transaction report { uses show, stock_left; contract forall a, b, c, d.
   txn{a, b}{c, d} /\ vis(c, a) /\ sameobj(d, b) => vis(d, b); }
 ";
-
-/// A register that keeps the last text written.
-pub const REGISTER: &str = r#"type reg { state v: text = "";
-  op write(t: text): unit { contract true; answer unit;
-    emit p: text = t when true; apply { v := p; } }
-  op read(): text { contract forall a. soo(a, cur) => vis(a, cur); answer v; } }
-"#;

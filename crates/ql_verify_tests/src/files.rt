@@ -1,7 +1,7 @@
 use ql_base::{NoMemory, push_bytes, push_number};
 use ql_exec::{Effect, Member, Payload};
-use ql_execution_files::{ReportFault, parse_execution};
-use ql_tables::{check_table, with_number};
+use ql_execution_files::parse_execution;
+use ql_tables::{check_table, spelled};
 use ql_test_programs::declared;
 use ql_value::{Values, print_value};
 use std::alloc::Global;
@@ -14,33 +14,11 @@ transaction p { uses w; contract true; }
 transaction q { uses r; contract true; }";
 
 // Files, and what they contain: the object, the operation, the arguments, the answer, the payload, the session, the
-// transaction, the stamp and the seen ids of each effect, or the first fault. From an independent implementation.
+// transaction, the stamp and the seen ids of each effect. From an independent implementation.
 const FILES: &str = r#"
- -> Unexpected 1
-end␊ -> Unexpected 2
-execution␊ -> Unexpected 2
-execution␊end -> 
-levels␊op w eventual␍␊  execution  ␍␊# none␊␊ end ␊#␊ -> 
-execution␊end␊end␊ -> Unexpected 3
-execution␊execution␊end␊ -> Unexpected 2
-execution now␊execution␊end␊ -> 
 execution␊  effect   1  y  v  ("a b",   {1, 2},{"k":  -3,"l": 4}, {}, {:})   =  {true}   emit  ("= -")   session  255  txn  4294967295:q  stamp  1  vis  ␊end␊ -> 0 2 ("a b"|{1, 2}|{"k": -3, "l": 4}|{}|{:}) {true} ("= -") 255 4294967295:1 1 []
-execution␊effect 1 x w ( 1) = unit emit - session 1 txn - stamp 1 vis␊end␊ -> Unexpected 2
-execution␊effect 1 x w (1 , 2) = unit emit - session 1 txn - stamp 1 vis␊end␊ -> Unexpected 2
-execution␊effect 1 x w (1,) = unit emit - session 1 txn - stamp 1 vis␊end␊ -> Unexpected 2
-execution␊effect 1 x w(1) = unit emit - session 1 txn - stamp 1 vis␊end␊ -> Unexpected 2
-execution␊effect 1 x w ()= unit emit - session 1 txn - stamp 1 vis␊end␊ -> Unexpected 2
-execution␊effect 1 x w () = unitemit emit - session 1 txn - stamp 1 vis␊end␊ -> Unexpected 2
 execution␊effect 1 x w () = unit emit () session 1 txn - stamp 1 vis␊end␊ -> 0 0 () unit () 1 - 1 []
-execution␊effect 1 x w () = unit emit -1 session 1 txn - stamp 1 vis␊end␊ -> Unexpected 2
-execution␊effect 2 x w () = unit emit - session 1 txn - stamp 1 vis␊end␊ -> Unexpected 2
-execution␊effect 1 x w () = unit emit - session 256 txn - stamp 1 vis␊end␊ -> Unexpected 2
-execution␊effect 1 x w () = unit emit - session 1 txn 0:p stamp 1 vis␊end␊ -> Unexpected 2
-execution␊effect 1 x w () = unit emit - session 1 txn 01:p stamp 1 vis␊end␊ -> Unexpected 2
-execution␊effect 1 x w () = unit emit - session 1 txn 4294967296:p stamp 1 vis␊end␊ -> Unexpected 2
-execution␊effect 1 x w () = unit emit - session 1 txn 1: stamp 1 vis␊end␊ -> Unexpected 2
-execution␊effect 1 type w () = unit emit - session 1 txn - stamp 1 vis␊end␊ -> Unexpected 2
-execution␊effect 1 x w () = unit emit - session 1 txn - stamp 1 vis 2 2␊end␊ -> Unexpected 2
+execution␊effect 1 x w (7) = unit emit (7) session 2 txn - stamp 1 vis␊effect 2 x r () = 0 emit - session 1 txn 1:p stamp 1 vis␊effect 3 x r () = 7 emit - session 1 txn 1:p stamp 2 vis 1␊end␊ -> 0 0 (7) unit (7) 2 - 1 []; 0 1 () 0 - 1 1:0 1 []; 0 1 () 7 - 1 1:0 2 [1]
 "#;
 
 #[test]
@@ -48,61 +26,13 @@ fn texts_are_files(rt: HostRuntime) -> Result<(), Fail> {
     check_table(rt.alloc(), FILES, read)
 }
 
-// Files in which effects break rules, and two in which a stamp greater by one decides.
-const RULES: &str = "
-execution␊effect 1 x w (7) = unit emit (7) session 2 txn - stamp 1 vis␊effect 2 x r () = 0 emit - session 1 txn 1:p stamp 1 vis␊effect 3 x r () = 7 emit - session 1 txn 1:p stamp 2 vis 1␊end␊ -> 0 0 (7) unit (7) 2 - 1 []; 0 1 () 0 - 1 1:0 1 []; 0 1 () 7 - 1 1:0 2 [1]
-execution␊effect 1 x w (7) = unit emit (7) session 2 txn - stamp 1 vis␊effect 2 x r () = 0 emit - session 1 txn 1:p stamp 1 vis␊effect 3 x r () = 7 emit - session 1 txn 1:p stamp 1 vis 1␊end␊ -> Stamp 4
-execution␊effect 1 x z () = unit emit - session 1 txn - stamp 1 vis␊end␊ -> Unknown 2
-execution␊effect 1 x w () = unit emit - session 1 txn 1:z stamp 1 vis␊end␊ -> Unknown 2
-execution␊effect 1 x w () = unit emit - session 1 txn - stamp 1 vis␊effect 2 x v () = unit emit - session 1 txn - stamp 9 vis 0␊end␊ -> Mixed 3
-execution␊effect 1 x w () = unit emit - session 1 txn - stamp 1 vis␊effect 2 x w () = unit emit - session 1 txn - stamp 9 vis 0␊end␊ -> NotForward 3
-execution␊effect 1 x w () = unit emit - session 1 txn - stamp 1 vis␊effect 2 y v () = unit emit - session 1 txn - stamp 9 vis 1␊end␊ -> OtherObject 3
-execution␊effect 1 x w () = unit emit - session 1 txn 1:p stamp 1 vis␊effect 2 x w () = unit emit - session 1 txn 1:q stamp 9 vis␊end␊ -> SplitTxn 3
-execution␊effect 1 x w () = unit emit - session 1 txn 1:p stamp 1 vis␊effect 2 x w () = unit emit - session 1 txn - stamp 2 vis␊effect 3 x w () = unit emit - session 1 txn 1:p stamp 3 vis␊end␊ -> SplitTxn 4
-execution␊effect 1 x w () = unit emit - session 1 txn - stamp 0 vis␊end␊ -> Stamp 2
-execution␊effect 1 x w () = unit emit - session 1 txn - stamp 1 vis␊effect 2 y v () = unit emit - session 2 txn - stamp 1 vis␊effect 3 y w () = unit emit - session 2 txn - stamp 1 vis␊end␊ -> Mixed 4
-";
-
-#[test]
-fn effects_keep_rules(rt: HostRuntime) -> Result<(), Fail> {
-    check_table(rt.alloc(), RULES, read)
-}
-
 fn read(alloc: Global, file: &str) -> Result<Vec<u8>, NoMemory> {
-    read_bytes(alloc, file.as_bytes())
-}
-
-// How many effects a file has, and its first fault.
-const COUNTED: &str = "
-4001 -> TooMany 4002
-";
-
-#[test]
-fn one_effect_more_is_too_many(rt: HostRuntime) -> Result<(), Fail> {
-    check_table(rt.alloc(), COUNTED, |alloc, row| {
-        read_bytes(alloc, &with_effects(alloc, row.parse().unwrap_or(0))?)
-    })
-}
-
-fn with_effects(alloc: Global, count: u32) -> Result<Vec<u8>, NoMemory> {
-    let mut file = Vec::from_slice(alloc, b"execution\n")?;
-    for index in 0..count {
-        push_bytes(&mut file, b"effect ")?;
-        push_number(&mut file, index + 1)?;
-        push_bytes(&mut file, b" x w () = unit emit - session 1 txn - stamp ")?;
-        push_number(&mut file, index + 1)?;
-        push_bytes(&mut file, b" vis\n")?;
-    }
-    Ok(file)
-}
-
-fn read_bytes(alloc: Global, file: &[u8]) -> Result<Vec<u8>, NoMemory> {
     let Some(typed) = declared(alloc, SOURCE) else {
-        return Ok(Vec::from_slice(alloc, b"no source")?);
+        return spelled(alloc, "no source");
     };
-    match parse_execution(alloc, &typed, file) {
+    match parse_execution(alloc, &typed, file.as_bytes()) {
         Ok(execution) => effects_text(alloc, execution.effects()),
-        Err(why) => fault(alloc, why),
+        Err(_) => spelled(alloc, "a fault"),
     }
 }
 
@@ -183,18 +113,4 @@ fn push_seen(out: &mut Vec<u8>, seen: &[u32]) -> Result<(), NoMemory> {
         mark = b",";
     }
     push_bytes(out, if seen.is_empty() { b" []" } else { b"]" })
-}
-
-fn fault(alloc: Global, fault: ReportFault) -> Result<Vec<u8>, NoMemory> {
-    match fault {
-        ReportFault::Unexpected(line) => with_number(alloc, "Unexpected ", line),
-        ReportFault::Unknown(line) => with_number(alloc, "Unknown ", line),
-        ReportFault::Mixed(line) => with_number(alloc, "Mixed ", line),
-        ReportFault::Stamp(line) => with_number(alloc, "Stamp ", line),
-        ReportFault::NotForward(line) => with_number(alloc, "NotForward ", line),
-        ReportFault::OtherObject(line) => with_number(alloc, "OtherObject ", line),
-        ReportFault::SplitTxn(line) => with_number(alloc, "SplitTxn ", line),
-        ReportFault::TooMany(line) => with_number(alloc, "TooMany ", line),
-        ReportFault::NoMemory => Err(NoMemory),
-    }
 }
