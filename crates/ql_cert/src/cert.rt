@@ -6,7 +6,7 @@ use ql_refute::Refutation;
 use std::marker::Model;
 
 /// The level of an operation or of a declared transaction.
-#[derive(Clone, Copy, Debug, PartialEq, Eq)]
+#[derive(Clone, Copy)]
 pub enum SectionLevel {
     Op(Level),
     Txn(TxnLevel),

@@ -5,7 +5,7 @@ use ql_line_files::{Broken, FileFault};
 
 /// Why a text isn't a certificate or proof, with the number of the first faulty line, from 1. If the file ends
 /// too early, that is the line after its last.
-#[derive(Clone, Copy, Debug, PartialEq, Eq)]
+#[derive(Clone, Copy)]
 pub enum CertFault {
     /// No valid file has this line after the lines before it.
     Unexpected(u64),

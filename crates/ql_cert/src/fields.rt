@@ -51,8 +51,8 @@ pub(crate) fn hint(field: &[u8]) -> Option<Hint>
     ensures { IsRead IsHint hint_field field.now result }
 {
     match field.split_first()? {
-        (b'c', digits) => variable(digits).map(Hint::Given),
-        (b'l', digits) => line_number(digits).map(Hint::Earlier),
+        (b'c', digits) => Some(Hint::Given(variable(digits)?)),
+        (b'l', digits) => Some(Hint::Earlier(line_number(digits)?)),
         _ => None,
     }
 }
