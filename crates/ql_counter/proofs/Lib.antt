@@ -6,6 +6,7 @@ pub mod Choosing
 pub mod OpCounters
 pub mod TxnCounters
 pub mod Loops
+pub mod Growing
 pub mod Made
 pub mod Programs
 pub mod Joined

@@ -7,7 +7,7 @@ use crate::constants::related;
 use ql_atoms::{PairKind, Shape};
 
 /// A way in which two constants are alike.
-#[derive(Clone, Copy, PartialEq, Eq)]
+#[derive(Clone, Copy)]
 pub(crate) enum Likeness {
     Equal,
     OneSession,

@@ -53,10 +53,11 @@ fn of_operation(
         operations,
     };
     let slots = slots(alloc, a, s, extra(&f.body))?;
+    let places = places(alloc, a, s, &slots, vars)?;
     Ok(Counter {
         execution: execution(alloc, a, s, None, &slots)?,
         at: At::Effect(EffId(place(a, s, &slots, vars))),
-        places: places(alloc, a, s, &slots, vars)?,
+        places,
     })
 }
 
@@ -84,10 +85,11 @@ fn of_transaction(
         links: false,
     };
     let slots = slots(alloc, a, s, own)?;
+    let places = places(alloc, a, s, &slots, vars)?;
     let run = class(a, s, Likeness::OneTxn, first_current(a, s)) + 1;
     Ok(Counter {
         execution: execution(alloc, a, s, Some(name), &slots)?,
         at: At::Run(RunId(run)),
-        places: places(alloc, a, s, &slots, vars)?,
+        places,
     })
 }

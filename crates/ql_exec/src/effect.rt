@@ -6,7 +6,7 @@ use ql_base::{DeclId, IdSet, ObjId, OpId, RunId, SessId};
 use ql_value::{Value, Values};
 
 /// Whether an effect was made in a transaction.
-#[derive(Clone, Copy, Debug, PartialEq, Eq)]
+#[derive(Clone, Copy)]
 pub enum Member {
     /// It was made outside any transaction.
     Alone,

@@ -2,7 +2,7 @@ use ql_base::{EffId, NoMemory};
 use std::alloc::{AllocError, AllocFailed};
 
 /// Why a draft can't be the next effect of an execution. The id is the one that it would have.
-#[derive(Clone, Copy, Debug, PartialEq, Eq)]
+#[derive(Clone, Copy)]
 pub enum ExecFault {
     /// It sees an id that names no earlier effect.
     NotForward(EffId),

@@ -8,7 +8,7 @@ use ql_cnf::Lit;
 const UNSET: u8 = 0;
 
 /// How a clause reads under a partial assignment.
-#[derive(Clone, Copy, PartialEq, Eq)]
+#[derive(Clone, Copy)]
 pub enum Reading {
     /// All its literals are false.
     AllFalse,

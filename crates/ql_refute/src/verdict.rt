@@ -1,5 +1,5 @@
 /// The checker's verdict on a refutation. The number is that of the first line at fault, from 1.
-#[derive(Clone, Copy, Debug, PartialEq, Eq)]
+#[derive(Clone, Copy, PartialEq, Eq)]
 pub enum Verdict {
     /// Each line follows from the clauses and the lines before it, and one is empty.
     Accepted,

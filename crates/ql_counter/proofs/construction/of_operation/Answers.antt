@@ -10,6 +10,6 @@ execution-requires-clause-lawful c =
     let a = c.args.a.now in
     let n = length c.items.result.now in
     op-lawful a (resolved_of c.args.f.now) n c.args.operations
-    c.in_ok-slots.slots.items c.deref.result.now (ap length c.items.ensures)
+    c.in_ok-slots.slots.items c.deref-2.result.now (ap length c.items.ensures)
     (c.in_ok-slots.ensures.slots ∙ ap (slots_of (pattern_of a (size (n + 1) c.args.operations) alone)) c.extra.ensures)
-    c.deref.ensures.value c.requires.lawful
+    c.deref-2.ensures.value c.requires.lawful

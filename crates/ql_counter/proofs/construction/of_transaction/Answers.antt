@@ -17,11 +17,11 @@ returns c = λ types e.
     let first = c.first_current.ensures in
     txn-made a types (resolved_of c.args.f.now) c.args.name n c.args.operations vars e
     c.in_ok-slots.slots.items c.in_ok-slots.ensures.slots
-    c.in_ok-execution.field-0 (c.in_ok-execution.ensures ∙ ap (built (pattern_of a s (begun a s c.args.name.0))) c.deref.ensures.value)
+    c.in_ok-execution.field-0 (c.in_ok-execution.ensures ∙ ap (built (pattern_of a s (begun a s c.args.name.0))) c.deref-2.ensures.value)
     (c.class-run.result + 1) (omega (arith, run) ∙ ap (λ k. suc (class_of n (related_by a s SameTxn) k)) first)
-    c.in_ok-places.field-0 (c.in_ok-places.ensures ∙ ap (λ ys. constant_places (pattern_of a s alone) ys n) c.deref-2.ensures.value)
+    c.in_ok-places.places (c.in_ok-places.ensures ∙ ap (λ ys. constant_places (pattern_of a s alone) ys n) c.deref.ensures.value)
 
 pub execution-requires-clause-lawful : goal.execution-requires-clause-lawful
 execution-requires-clause-lawful c =
     txn-lawful c.args.a.now (resolved_of c.args.f.now) c.args.name (length c.items.result.now) c.args.operations
-    c.in_ok-slots.slots.items c.deref.result.now (ap length c.items.ensures) c.in_ok-slots.ensures.slots c.deref.ensures.value c.requires.lawful
+    c.in_ok-slots.slots.items c.deref-2.result.now (ap length c.items.ensures) c.in_ok-slots.ensures.slots c.deref-2.ensures.value c.requires.lawful
