@@ -31,5 +31,5 @@ pub use name::{is_keyword, is_name, name_bytes};
 pub use no_memory::NoMemory;
 pub use number::{digit_bytes, number_of};
 pub use numbering::Names;
-pub use push::{push_bytes, push_number};
+pub use push::{push_all, push_bytes, push_number};
 pub use word::Word;

@@ -1,4 +1,5 @@
-ghost use Rattle.std.specs.Prelude.{◌≡◌, ◌++◌, OnOk, OnErr};
+ghost use Rattle.std.specs.Prelude.{◌≡◌, ◌++◌, OnOk, OnErr, map};
+ghost use Rattle.std.specs.List.{concat};
 
 use crate::no_memory::NoMemory;
 use itoa::{Buffer, Integer};
@@ -9,6 +10,16 @@ pub fn push_bytes(out: &mut Vec<u8>, bytes: &[u8]) -> Result<(), NoMemory>
     ensures err { OnErr result (out.new.items ≡ out.old.items) }
 {
     out.extend_from_slice(bytes)?;
+    Ok(())
+}
+
+/// Appends texts, one after another.
+pub fn push_all(out: &mut Vec<u8>, texts: &[&[u8]]) -> Result<(), NoMemory>
+    ensures { OnOk result (out.new.items ≡ out.old.items ++ concat (map (λ t. t.now) texts.now)) }
+{
+    for text in texts {
+        push_bytes(out, text)?;
+    }
     Ok(())
 }
 

@@ -108,8 +108,7 @@ impl Reader<'_> {
         let left = self.term(Role::Plain)?;
         self.take(Terminal::Comma, Role::Plain)?;
         let right = self.term(Role::Plain)?;
-        self.take(Terminal::CloseParen, Role::Closes)?;
-        Ok((left, right))
+        self.past((left, right), Terminal::CloseParen, Role::Closes)
     }
 
     /// A relation that is applied to two terms.
@@ -145,8 +144,7 @@ impl Reader<'_> {
     {
         self.take(Terminal::OpenBrace, Role::Plain)?;
         let terms = self.terms(alloc)?;
-        self.take(Terminal::CloseBrace, Role::Plain)?;
-        Ok(terms)
+        self.past(terms, Terminal::CloseBrace, Role::Plain)
     }
 
     /// What neither is `true` nor stands in brackets.
@@ -176,14 +174,12 @@ impl Reader<'_> {
         ensures refused { IfErr result (IsRefused (APart (PropAt Atom)) self.old) }
     {
         if self.sees(Terminal::TrueWord) {
-            self.take(Terminal::TrueWord, Role::Makes(1))?;
-            return Ok(Prop::True);
+            return self.past(Prop::True, Terminal::TrueWord, Role::Makes(1));
         }
         if self.sees(Terminal::OpenParen) {
             self.take(Terminal::OpenParen, Role::Opens(0))?;
             let inside = self.prop(alloc)?;
-            self.take(Terminal::CloseParen, Role::Closes)?;
-            return Ok(inside);
+            return self.past(inside, Terminal::CloseParen, Role::Closes);
         }
         self.statement(alloc)
     }

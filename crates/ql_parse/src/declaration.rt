@@ -128,8 +128,7 @@ impl Reader<'_> {
     {
         self.take(Terminal::Equals, Role::Plain)?;
         let init = self.beginning(alloc)?;
-        self.take(Terminal::Semicolon, Role::Plain)?;
-        Ok(init)
+        self.past(init, Terminal::Semicolon, Role::Plain)
     }
 
     /// A state field.
@@ -218,8 +217,7 @@ impl Reader<'_> {
     {
         self.take(Terminal::OpenParen, Role::Plain)?;
         let found = self.any_params(alloc)?;
-        self.take(Terminal::CloseParen, Role::Plain)?;
-        Ok(found)
+        self.past(found, Terminal::CloseParen, Role::Plain)
     }
 
     /// The expression after a word that stands before one.
@@ -244,8 +242,7 @@ impl Reader<'_> {
         ensures refused { IfErr result (AreRefused (closed_symbols word) self.old) }
     {
         let value = self.value_behind(alloc, word)?;
-        self.take(Terminal::Semicolon, Role::Plain)?;
-        Ok(value)
+        self.past(value, Terminal::Semicolon, Role::Plain)
     }
 
     /// The contract after its word, up to a semicolon.
@@ -257,8 +254,7 @@ impl Reader<'_> {
     {
         self.take(Terminal::ContractWord, Role::Before)?;
         let contract = self.contract(alloc)?;
-        self.take(Terminal::Semicolon, Role::Plain)?;
-        Ok(contract)
+        self.past(contract, Terminal::Semicolon, Role::Plain)
     }
 
     /// A value that is emitted.
@@ -340,8 +336,7 @@ impl Reader<'_> {
         self.take(Terminal::ApplyWord, Role::Plain)?;
         self.take(Terminal::OpenBrace, Role::Plain)?;
         let found = self.statements(alloc)?;
-        self.take(Terminal::CloseBrace, Role::Plain)?;
-        Ok(found)
+        self.past(found, Terminal::CloseBrace, Role::Plain)
     }
 
     /// What an operation emits and how that is applied.
@@ -402,8 +397,7 @@ impl Reader<'_> {
         ensures refused { IfErr result (AreRefused ending_symbols self.old) }
     {
         let effect = self.effect(alloc)?;
-        self.take(Terminal::CloseBrace, Role::Plain)?;
-        Ok(effect)
+        self.past(effect, Terminal::CloseBrace, Role::Plain)
     }
 
     /// What stands in the braces of an operation.
@@ -472,13 +466,13 @@ impl Reader<'_> {
         self.take(Terminal::OpenBrace, Role::Plain)?;
         let fields = self.fields(alloc)?;
         let ops = self.operations_of_type(alloc)?;
-        self.take(Terminal::CloseBrace, Role::Plain)?;
-        Ok(TypeDecl {
+        let decl = TypeDecl {
             at,
             name,
             fields,
             ops,
-        })
+        };
+        self.past(decl, Terminal::CloseBrace, Role::Plain)
     }
 
     /// A type.
@@ -520,8 +514,7 @@ impl Reader<'_> {
     {
         self.take(Terminal::UsesWord, Role::Plain)?;
         let names = self.names(alloc, Terminal::Comma)?;
-        self.take(Terminal::Semicolon, Role::Plain)?;
-        Ok(names)
+        self.past(names, Terminal::Semicolon, Role::Plain)
     }
 
     /// A transaction after its name.
@@ -533,13 +526,13 @@ impl Reader<'_> {
         self.take(Terminal::OpenBrace, Role::Plain)?;
         let uses = self.uses(alloc)?;
         let contract = self.closed_contract(alloc)?;
-        self.take(Terminal::CloseBrace, Role::Plain)?;
-        Ok(TxnDecl {
+        let decl = TxnDecl {
             at,
             name,
             uses,
             contract,
-        })
+        };
+        self.past(decl, Terminal::CloseBrace, Role::Plain)
     }
 
     /// A transaction.

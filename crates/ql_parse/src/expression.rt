@@ -270,8 +270,7 @@ impl Reader<'_> {
     {
         self.take(Terminal::OpenParen, Role::Opens(0))?;
         let args = self.arguments_of_call(alloc)?;
-        self.take(Terminal::CloseParen, Role::Closes)?;
-        Ok(args)
+        self.past(args, Terminal::CloseParen, Role::Closes)
     }
 
     /// Expressions with commas between them.
@@ -305,11 +304,11 @@ impl Reader<'_> {
     {
         let at = self.take(Terminal::OpenParen, Role::Opens(0))?;
         let inside = self.whole_expression(alloc)?;
-        self.take(Terminal::CloseParen, Role::Closes)?;
-        Ok(Operand {
+        let group = Operand {
             start: at,
             expr: inside.expr,
-        })
+        };
+        self.past(group, Terminal::CloseParen, Role::Closes)
     }
 
     /// The word `not` and what it denies.
@@ -377,8 +376,7 @@ impl Reader<'_> {
         if self.sees(Terminal::Minus) {
             return self.negation(alloc);
         }
-        let value = self.constant()?;
-        Ok(value)
+        self.constant()
     }
 
     /// An operand of operators of this precedence.

@@ -53,8 +53,7 @@ impl Reader<'_> {
         ensures refused { IfErr result (IsRefused (APart BaseKind) self.old) }
     {
         let (word, base) = self.base_word();
-        self.take(word, Role::Plain)?;
-        Ok(base)
+        self.past(base, word, Role::Plain)
     }
 
     /// The kind of a single value after a mark.
@@ -75,8 +74,7 @@ impl Reader<'_> {
     {
         self.take(Terminal::SetWord, Role::Plain)?;
         let element = self.base_behind(Terminal::OpenParen)?;
-        self.take(Terminal::CloseParen, Role::Plain)?;
-        Ok(Kind::Set(element))
+        self.past(Kind::Set(element), Terminal::CloseParen, Role::Plain)
     }
 
     /// The keys' and values' kinds after the word `map`.
@@ -88,8 +86,7 @@ impl Reader<'_> {
         self.take(Terminal::MapWord, Role::Plain)?;
         let key = self.base_behind(Terminal::OpenParen)?;
         let value = self.base_behind(Terminal::Comma)?;
-        self.take(Terminal::CloseParen, Role::Plain)?;
-        Ok(Kind::Map(key, value))
+        self.past(Kind::Map(key, value), Terminal::CloseParen, Role::Plain)
     }
 
     /// The kind of one word that comes next, with this word; where none does, the last of them.
@@ -120,8 +117,7 @@ impl Reader<'_> {
             return self.map_kind();
         }
         let (word, kind) = self.kind_word();
-        self.take(word, Role::Plain)?;
-        Ok(kind)
+        self.past(kind, word, Role::Plain)
     }
 
     /// The beginning of one word that comes next, with this word; where none does, the last of them.

@@ -189,6 +189,22 @@ impl<'a> Reader<'a> {
         Ok(at)
     }
 
+    /// This part of a tree, past the next token, which has to be this one, in this role.
+    pub(crate) fn past<T: Drop>(
+        &mut self,
+        part: T,
+        terminal: Terminal,
+        role: Role,
+    ) -> Result<T, Refusal>
+        ensures took { IfOk result
+            (λ t. (t ≡ part) × Took (Word terminal role) self.old self.new) }
+        ensures shorter { OnOk result (length self.new.tokens < length self.old.tokens) }
+        ensures refused { IfErr result (IsRefused (Word terminal role) self.old) }
+    {
+        self.take(terminal, role)?;
+        Ok(part)
+    }
+
     /// The bytes of the next token, which is a name.
     fn word_ahead(&self) -> ql_base::Word
         requires { is_ahead NameToken self.now.tokens ≡ true }

@@ -51,8 +51,7 @@ impl Reader<'_> {
         if self.sees(Terminal::OpenBracket) {
             self.take(Terminal::OpenBracket, bracket)?;
             let inside = self.joined_relations(alloc, Junction::Or)?;
-            self.take(Terminal::CloseBracket, Role::Closes)?;
-            return Ok(inside);
+            return self.past(inside, Terminal::CloseBracket, Role::Closes);
         }
         let (word, known) = self.relation_word();
         let at = self.take(word, name)?;

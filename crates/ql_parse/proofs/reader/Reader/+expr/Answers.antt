@@ -41,13 +41,11 @@ bracketed-returns-in_err-args-clause-refused t c =
     let p = err_from_is_err_and c.from_residual-in_err-args.result c.from_residual-in_err-args.ensures.1 in
     rw (p.1, p.2) (λ f is below vs. c.in_ok-take.ensures.took _ _ ∙ c.in_err-args.ensures.refused f is _ _)
 
-pub bracketed-returns-in_err-take-2-clause-refused : goal.bracketed-returns-in_err-take-2-clause-refused
-bracketed-returns-in_err-take-2-clause-refused t c =
-    let p = err_from_is_err_and c.from_residual-in_err-take-2.result c.from_residual-in_err-take-2.ensures.1 in
-    rw (p.1, p.2) (λ f is below vs. c.in_ok-take.ensures.took _ _ ∙ c.in_ok-args.ensures.gave _ _ ∙ c.in_err-take-2.ensures.refused f is _ _)
-
 pub bracketed-returns-clause-gave : goal.bracketed-returns-clause-gave
-bracketed-returns-clause-gave t c = λ below vs. c.in_ok-take.ensures.took _ _ ∙ c.in_ok-args.ensures.gave _ _ ∙ c.in_ok-take-2.ensures.took _ _
+bracketed-returns-clause-gave t c = if_ok c.past.result c.past.ensures.took (λ x read below vs. rw read.0 (c.in_ok-take.ensures.took _ _ ∙ c.in_ok-args.ensures.gave _ _ ∙ read.1 _ _))
+
+pub bracketed-returns-clause-refused : goal.bracketed-returns-clause-refused
+bracketed-returns-clause-refused t c = if_err c.past.result c.past.ensures.refused (λ e refused f is below vs. c.in_ok-take.ensures.took _ _ ∙ c.in_ok-args.ensures.gave _ _ ∙ refused f is _ _)
 
 pub arguments_of_call-more-init : goal.arguments_of_call-more-init
 arguments_of_call-more-init t c = rw c.in_ok-found.ensures.items (begins to_arguments (λ below vs. read-as c.args.self.now Arguments (ExprAt Chosen) below (Do to_arguments ∷ Then MoreArguments ∷ below) vs refl) (λ x vs. refl) (omega arith))
@@ -73,13 +71,11 @@ group-returns-in_err-inside-clause-refused t c =
     let p = err_from_is_err_and c.from_residual-in_err-inside.result c.from_residual-in_err-inside.ensures.1 in
     rw (p.1, p.2) (λ f is below vs. unary-group c.args.self.now below vs c.requires ∙ c.in_ok-at.ensures.gave _ _ ∙ c.in_err-inside.ensures.refused f is _ _)
 
-pub group-returns-in_err-take-clause-refused : goal.group-returns-in_err-take-clause-refused
-group-returns-in_err-take-clause-refused t c =
-    let p = err_from_is_err_and c.from_residual-in_err-take.result c.from_residual-in_err-take.ensures.1 in
-    rw (p.1, p.2) (λ f is below vs. unary-group c.args.self.now below vs c.requires ∙ c.in_ok-at.ensures.gave _ _ ∙ c.in_ok-inside.ensures.gave _ _ ∙ c.in_err-take.ensures.refused f is _ _)
-
 pub group-returns-clause-gave : goal.group-returns-clause-gave
-group-returns-clause-gave t c = λ below vs. unary-group c.args.self.now below vs c.requires ∙ c.in_ok-at.ensures.gave _ _ ∙ c.in_ok-inside.ensures.gave _ _ ∙ c.in_ok-take.ensures.took _ _ ∙ read-do _ _ _ _
+group-returns-clause-gave t c = if_ok c.past.result c.past.ensures.took (λ x read below vs. rw read.0 (unary-group c.args.self.now below vs c.requires ∙ c.in_ok-at.ensures.gave _ _ ∙ c.in_ok-inside.ensures.gave _ _ ∙ read.1 _ _ ∙ read-do _ _ _ _))
+
+pub group-returns-clause-refused : goal.group-returns-clause-refused
+group-returns-clause-refused t c = if_err c.past.result c.past.ensures.refused (λ e refused f is below vs. unary-group c.args.self.now below vs c.requires ∙ c.in_ok-at.ensures.gave _ _ ∙ c.in_ok-inside.ensures.gave _ _ ∙ refused f is _ _)
 
 pub denial-returns-in_err-at-clause-refused : goal.denial-returns-in_err-at-clause-refused
 denial-returns-in_err-at-clause-refused t c =
@@ -109,13 +105,11 @@ pub negation-returns-clause-gave : goal.negation-returns-clause-gave
 unfolding node_of
 negation-returns-clause-gave t c = λ below vs. rw (c.in_ok-new.ensures.ok) (unary-minus c.args.self.now below vs c.requires ∙ c.in_ok-at.ensures.gave _ _ ∙ c.in_ok-negated.ensures.gave _ _ ∙ read-do _ _ _ _)
 
-pub unary-returns-in_err-value-clause-refused : goal.unary-returns-in_err-value-clause-refused
-unary-returns-in_err-value-clause-refused t c =
-    let p = err_from_is_err_and c.from_residual.result c.from_residual.ensures.1 in
-    rw (p.1, p.2) (λ f is below vs. unary-constant c.args.self.now below vs (sym c.sees.ensures ∙ c.if-sees.false) (sym c.sees-2.ensures ∙ c.if-sees-2.false) (sym c.sees-3.ensures ∙ c.if-sees-3.false) (sym c.sees-4.ensures ∙ c.if-sees-4.false) (sym c.sees-5.ensures ∙ c.if-sees-5.false) (sym c.sees-6.ensures ∙ c.if-sees-6.false) ∙ c.in_err-value.ensures.refused f is _ _)
-
 pub unary-returns-clause-gave : goal.unary-returns-clause-gave
-unary-returns-clause-gave t c = λ below vs. unary-constant c.args.self.now below vs (sym c.sees.ensures ∙ c.if-sees.false) (sym c.sees-2.ensures ∙ c.if-sees-2.false) (sym c.sees-3.ensures ∙ c.if-sees-3.false) (sym c.sees-4.ensures ∙ c.if-sees-4.false) (sym c.sees-5.ensures ∙ c.if-sees-5.false) (sym c.sees-6.ensures ∙ c.if-sees-6.false) ∙ c.in_ok-value.ensures.gave _ _
+unary-returns-clause-gave t c = if_ok c.constant.result c.constant.ensures.gave (λ o gave below vs. unary-constant c.args.self.now below vs (sym c.sees.ensures ∙ c.if-sees.false) (sym c.sees-2.ensures ∙ c.if-sees-2.false) (sym c.sees-3.ensures ∙ c.if-sees-3.false) (sym c.sees-4.ensures ∙ c.if-sees-4.false) (sym c.sees-5.ensures ∙ c.if-sees-5.false) (sym c.sees-6.ensures ∙ c.if-sees-6.false) ∙ gave _ _)
+
+pub unary-returns-clause-refused : goal.unary-returns-clause-refused
+unary-returns-clause-refused t c = if_err c.constant.result c.constant.ensures.refused (λ e refused f is below vs. unary-constant c.args.self.now below vs (sym c.sees.ensures ∙ c.if-sees.false) (sym c.sees-2.ensures ∙ c.if-sees-2.false) (sym c.sees-3.ensures ∙ c.if-sees-3.false) (sym c.sees-4.ensures ∙ c.if-sees-4.false) (sym c.sees-5.ensures ∙ c.if-sees-5.false) (sym c.sees-6.ensures ∙ c.if-sees-6.false) ∙ refused f is _ _)
 
 pub combined-returns-in_err-op-clause-refused : goal.combined-returns-in_err-op-clause-refused
 combined-returns-in_err-op-clause-refused t c =

@@ -5,33 +5,30 @@ use Rattle.ql_grammar.specs.Table.{Then, PropAt, MoreImplied}
 use Rattle.ql_grammar.proofs.Choices.{read-do}
 use Rattle.ql_grammar.proofs.Rules.{atom-truth, atom-group, read-as, then-on, then-past}
 use Rattle.ql_parse.proofs.JunctionLaws.{props_begin, props_on, props_past}
+use Rattle.ql_parse.proofs.PrecedenceLaws.{if_ok, if_err}
 use Rattle.ql_parse.proofs.reader.Reader.+prop.Goals as goal
+
+pub atom-returns-then-sees-clause-gave : goal.atom-returns-then-sees-clause-gave
+atom-returns-then-sees-clause-gave t c = if_ok c.past.result c.past.ensures.took (λ x read below vs. rw read.0 (atom-truth c.args.self.now below vs (sym c.sees.ensures ∙ c.if-sees.true) ∙ read.1 _ _ ∙ read-do _ _ _ _))
+
+pub atom-returns-then-sees-clause-refused : goal.atom-returns-then-sees-clause-refused
+atom-returns-then-sees-clause-refused t c = if_err c.past.result c.past.ensures.refused (λ e refused f is below vs. atom-truth c.args.self.now below vs (sym c.sees.ensures ∙ c.if-sees.true) ∙ refused f is _ _)
 
 pub atom-returns-in_err-take-clause-refused : goal.atom-returns-in_err-take-clause-refused
 atom-returns-in_err-take-clause-refused t c =
     let p = err_from_is_err_and c.from_residual.result c.from_residual.ensures.1 in
-    rw (p.1, p.2) (λ f is below vs. atom-truth c.args.self.now below vs (sym c.sees.ensures ∙ c.if-sees.true) ∙ c.in_err-take.ensures.refused f is _ _)
-
-pub atom-returns-then-sees-clause-gave : goal.atom-returns-then-sees-clause-gave
-atom-returns-then-sees-clause-gave t c = λ below vs. atom-truth c.args.self.now below vs (sym c.sees.ensures ∙ c.if-sees.true) ∙ c.in_ok-take.ensures.took _ _ ∙ read-do _ _ _ _
-
-pub atom-returns-in_err-take-2-clause-refused : goal.atom-returns-in_err-take-2-clause-refused
-atom-returns-in_err-take-2-clause-refused t c =
-    let p = err_from_is_err_and c.from_residual-in_err-take-2.result c.from_residual-in_err-take-2.ensures.1 in
-    rw (p.1, p.2) (λ f is below vs. atom-group c.args.self.now below vs (sym c.sees.ensures ∙ c.if-sees.false) (sym c.sees-2.ensures ∙ c.if-sees-2.true) ∙ c.in_err-take-2.ensures.refused f is _ _)
+    rw (p.1, p.2) (λ f is below vs. atom-group c.args.self.now below vs (sym c.sees.ensures ∙ c.if-sees.false) (sym c.sees-2.ensures ∙ c.if-sees-2.true) ∙ c.in_err-take.ensures.refused f is _ _)
 
 pub atom-returns-in_err-inside-clause-refused : goal.atom-returns-in_err-inside-clause-refused
 atom-returns-in_err-inside-clause-refused t c =
     let p = err_from_is_err_and c.from_residual-in_err-inside.result c.from_residual-in_err-inside.ensures.1 in
-    rw (p.1, p.2) (λ f is below vs. atom-group c.args.self.now below vs (sym c.sees.ensures ∙ c.if-sees.false) (sym c.sees-2.ensures ∙ c.if-sees-2.true) ∙ c.in_ok-take-2.ensures.took _ _ ∙ c.in_err-inside.ensures.refused f is _ _)
-
-pub atom-returns-in_err-take-3-clause-refused : goal.atom-returns-in_err-take-3-clause-refused
-atom-returns-in_err-take-3-clause-refused t c =
-    let p = err_from_is_err_and c.from_residual-in_err-take-3.result c.from_residual-in_err-take-3.ensures.1 in
-    rw (p.1, p.2) (λ f is below vs. atom-group c.args.self.now below vs (sym c.sees.ensures ∙ c.if-sees.false) (sym c.sees-2.ensures ∙ c.if-sees-2.true) ∙ c.in_ok-take-2.ensures.took _ _ ∙ c.in_ok-inside.ensures.gave _ _ ∙ c.in_err-take-3.ensures.refused f is _ _)
+    rw (p.1, p.2) (λ f is below vs. atom-group c.args.self.now below vs (sym c.sees.ensures ∙ c.if-sees.false) (sym c.sees-2.ensures ∙ c.if-sees-2.true) ∙ c.in_ok-take.ensures.took _ _ ∙ c.in_err-inside.ensures.refused f is _ _)
 
 pub atom-returns-then-sees-2-clause-gave : goal.atom-returns-then-sees-2-clause-gave
-atom-returns-then-sees-2-clause-gave t c = λ below vs. atom-group c.args.self.now below vs (sym c.sees.ensures ∙ c.if-sees.false) (sym c.sees-2.ensures ∙ c.if-sees-2.true) ∙ c.in_ok-take-2.ensures.took _ _ ∙ c.in_ok-inside.ensures.gave _ _ ∙ c.in_ok-take-3.ensures.took _ _
+atom-returns-then-sees-2-clause-gave t c = if_ok c.past-then-sees-2.result c.past-then-sees-2.ensures.took (λ x read below vs. rw read.0 (atom-group c.args.self.now below vs (sym c.sees.ensures ∙ c.if-sees.false) (sym c.sees-2.ensures ∙ c.if-sees-2.true) ∙ c.in_ok-take.ensures.took _ _ ∙ c.in_ok-inside.ensures.gave _ _ ∙ read.1 _ _))
+
+pub atom-returns-then-sees-2-clause-refused : goal.atom-returns-then-sees-2-clause-refused
+atom-returns-then-sees-2-clause-refused t c = if_err c.past-then-sees-2.result c.past-then-sees-2.ensures.refused (λ e refused f is below vs. atom-group c.args.self.now below vs (sym c.sees.ensures ∙ c.if-sees.false) (sym c.sees-2.ensures ∙ c.if-sees-2.true) ∙ c.in_ok-take.ensures.took _ _ ∙ c.in_ok-inside.ensures.gave _ _ ∙ refused f is _ _)
 
 pub joined_props-returns-in_err-left-clause-refused : goal.joined_props-returns-in_err-left-clause-refused
 joined_props-returns-in_err-left-clause-refused t c =

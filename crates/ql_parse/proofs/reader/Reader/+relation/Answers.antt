@@ -18,13 +18,11 @@ single-returns-in_err-inside-clause-refused t c =
     let p = err_from_is_err_and c.from_residual-in_err-inside.result c.from_residual-in_err-inside.ensures.1 in
     rw (p.1, p.2) (λ f is below vs. relation-bracket c.args.self.now c.args.name c.args.bracket below vs (sym c.sees.ensures ∙ c.if-sees.true) ∙ c.in_ok-take.ensures.took _ _ ∙ c.in_err-inside.ensures.refused f is _ _)
 
-pub single-returns-in_err-take-2-clause-refused : goal.single-returns-in_err-take-2-clause-refused
-single-returns-in_err-take-2-clause-refused t c =
-    let p = err_from_is_err_and c.from_residual-in_err-take-2.result c.from_residual-in_err-take-2.ensures.1 in
-    rw (p.1, p.2) (λ f is below vs. relation-bracket c.args.self.now c.args.name c.args.bracket below vs (sym c.sees.ensures ∙ c.if-sees.true) ∙ c.in_ok-take.ensures.took _ _ ∙ c.in_ok-inside.ensures.gave _ _ ∙ c.in_err-take-2.ensures.refused f is _ _)
-
 pub single-returns-then-sees-clause-gave : goal.single-returns-then-sees-clause-gave
-single-returns-then-sees-clause-gave t c = λ below vs. relation-bracket c.args.self.now c.args.name c.args.bracket below vs (sym c.sees.ensures ∙ c.if-sees.true) ∙ c.in_ok-take.ensures.took _ _ ∙ c.in_ok-inside.ensures.gave _ _ ∙ c.in_ok-take-2.ensures.took _ _
+single-returns-then-sees-clause-gave t c = if_ok c.past.result c.past.ensures.took (λ x read below vs. rw read.0 (relation-bracket c.args.self.now c.args.name c.args.bracket below vs (sym c.sees.ensures ∙ c.if-sees.true) ∙ c.in_ok-take.ensures.took _ _ ∙ c.in_ok-inside.ensures.gave _ _ ∙ read.1 _ _))
+
+pub single-returns-then-sees-clause-refused : goal.single-returns-then-sees-clause-refused
+single-returns-then-sees-clause-refused t c = if_err c.past.result c.past.ensures.refused (λ e refused f is below vs. relation-bracket c.args.self.now c.args.name c.args.bracket below vs (sym c.sees.ensures ∙ c.if-sees.true) ∙ c.in_ok-take.ensures.took _ _ ∙ c.in_ok-inside.ensures.gave _ _ ∙ refused f is _ _)
 
 pub single-returns-in_err-at-clause-refused : goal.single-returns-in_err-at-clause-refused
 single-returns-in_err-at-clause-refused t c =

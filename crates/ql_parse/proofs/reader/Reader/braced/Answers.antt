@@ -1,5 +1,6 @@
 use Rattle.std.proofs.Common.{◌∙◌}
 use Rattle.std.proofs.lemmas.Result.{err_from_is_err_and}
+use Rattle.ql_parse.proofs.PrecedenceLaws.{if_ok, if_err}
 use Rattle.ql_parse.proofs.reader.Reader.braced.Goals as goal
 
 pub returns-in_err-take-clause-refused : goal.returns-in_err-take-clause-refused
@@ -12,10 +13,8 @@ returns-in_err-terms-clause-refused c =
     let p = err_from_is_err_and c.from_residual-in_err-terms.result c.from_residual-in_err-terms.ensures.1 in
     rw (p.1, p.2) (λ f is below vs. c.in_ok-take.ensures.took _ _ ∙ c.in_err-terms.ensures.refused f is _ _)
 
-pub returns-in_err-take-2-clause-refused : goal.returns-in_err-take-2-clause-refused
-returns-in_err-take-2-clause-refused c =
-    let p = err_from_is_err_and c.from_residual-in_err-take-2.result c.from_residual-in_err-take-2.ensures.1 in
-    rw (p.1, p.2) (λ f is below vs. c.in_ok-take.ensures.took _ _ ∙ c.in_ok-terms.ensures.gave _ _ ∙ c.in_err-take-2.ensures.refused f is _ _)
-
 pub returns-clause-gave : goal.returns-clause-gave
-returns-clause-gave c = λ below vs. c.in_ok-take.ensures.took _ _ ∙ c.in_ok-terms.ensures.gave _ _ ∙ c.in_ok-take-2.ensures.took _ _
+returns-clause-gave c = if_ok c.past.result c.past.ensures.took (λ x read below vs. rw read.0 (c.in_ok-take.ensures.took _ _ ∙ c.in_ok-terms.ensures.gave _ _ ∙ read.1 _ _))
+
+pub returns-clause-refused : goal.returns-clause-refused
+returns-clause-refused c = if_err c.past.result c.past.ensures.refused (λ e refused f is below vs. c.in_ok-take.ensures.took _ _ ∙ c.in_ok-terms.ensures.gave _ _ ∙ refused f is _ _)

@@ -1,5 +1,4 @@
 use Rattle.std.proofs.Common.{sym, ◌∙◌}
-use Rattle.std.proofs.lemmas.Result.{err_from_is_err_and}
 use Rattle.ql_grammar.proofs.Choices.{read-do}
 use Rattle.ql_grammar.proofs.ByToken.{kind-set, kind-map}
 use Rattle.ql_parse.proofs.PrecedenceLaws.{if_ok, if_err}
@@ -18,10 +17,8 @@ returns-then-sees-2-clause-gave c = if_ok c.map_kind.result c.map_kind.ensures.g
 pub returns-then-sees-2-clause-refused : goal.returns-then-sees-2-clause-refused
 returns-then-sees-2-clause-refused c = if_err c.map_kind.result c.map_kind.ensures.refused (λ e refused f is below vs. kind-map c.args.self.now below vs (sym c.sees.ensures ∙ c.if-sees.false) (sym c.sees-2.ensures ∙ c.if-sees-2.true) ∙ refused f is _ _)
 
-pub returns-in_err-take-clause-refused : goal.returns-in_err-take-clause-refused
-returns-in_err-take-clause-refused c =
-    let p = err_from_is_err_and c.from_residual.result c.from_residual.ensures.1 in
-    rw (p.1, p.2) (λ f is below vs. kind-word c.args.self.now below vs (sym c.sees.ensures ∙ c.if-sees.false) (sym c.sees-2.ensures ∙ c.if-sees-2.false) _ c.kind_word-word.ensures ∙ c.in_err-take.ensures.refused f is _ _)
-
 pub returns-clause-gave : goal.returns-clause-gave
-returns-clause-gave c = λ below vs. kind-word c.args.self.now below vs (sym c.sees.ensures ∙ c.if-sees.false) (sym c.sees-2.ensures ∙ c.if-sees-2.false) _ c.kind_word-word.ensures ∙ c.in_ok-take.ensures.took _ _ ∙ read-do _ _ _ _
+returns-clause-gave c = if_ok c.past.result c.past.ensures.took (λ x read below vs. rw read.0 (kind-word c.args.self.now below vs (sym c.sees.ensures ∙ c.if-sees.false) (sym c.sees-2.ensures ∙ c.if-sees-2.false) _ c.kind_word-word.ensures ∙ read.1 _ _ ∙ read-do _ _ _ _))
+
+pub returns-clause-refused : goal.returns-clause-refused
+returns-clause-refused c = if_err c.past.result c.past.ensures.refused (λ e refused f is below vs. kind-word c.args.self.now below vs (sym c.sees.ensures ∙ c.if-sees.false) (sym c.sees-2.ensures ∙ c.if-sees-2.false) _ c.kind_word-word.ensures ∙ refused f is _ _)
