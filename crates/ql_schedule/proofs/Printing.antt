@@ -1,10 +1,10 @@
 -- what is printed of a list is printed item by item
-use Rattle.std.proofs.Common.{◌≡◌, ℕ, ◌<◌, ◌+◌, List, [], ◌∷◌, ◌++◌, Result, Ok, Err, codes, map, take, length, get_or, arith, refl, ap, sym, subst, ◌∙◌, append_assoc, add-one, length-take}
+use Rattle.std.proofs.Common.{◌≡◌, ℕ, ◌<◌, ◌≤◌, ◌+◌, List, [], ◌∷◌, ◌++◌, Result, Ok, Err, codes, map, take, length, get_or, arith, refl, ap, sym, subst, ◌∙◌, append_assoc, add-one, length-take}
 use Rattle.std.specs.Prelude.{OnOk}
 use Rattle.ql_base.specs.declared.ids.TypeId.{TypeId}
 use Rattle.ql_lang.specs.declared.program.Program.{Program}
 use Rattle.ql_schedule.specs.Texts.{object_fields, object_lines}
-use Rattle.std.proofs.lemmas.List.{append-nil, get_or_default, map-append}
+use Rattle.std.proofs.lemmas.List.{append-nil, get_or_default, map-append, take_all}
 use Rattle.std.proofs.Math.Seq.{take-suc}
 use Rattle.ql_lines.specs.Fields.{Fields}
 use Rattle.ql_lines.specs.Texts.{spaced_fields, file_text, joined}
@@ -40,10 +40,6 @@ more_fields out w fs gs =
     ap (λ r. r ++ spaced_fields gs) (joined_spaced w fs) ∙ append_assoc w (spaced_fields fs) (spaced_fields gs) ∙ ap (λ r. w ++ r) (sym (spaced_fields-append fs gs)) ∙ sym (joined_spaced w (fs ++ gs))
     )
 
-pub one_field : (out w f : List ℕ) (fs : Fields) → (out ++ joined (w ∷ fs)) ++ 32 ∷ f ≡ out ++ joined (w ∷ (fs ++ f ∷ []))
-unfolding spaced_fields
-one_field out w f fs = ap (λ r. (out ++ joined (w ∷ fs)) ++ 32 ∷ r) (sym (append-nil f)) ∙ more_fields out w fs (f ∷ [])
-
 -- one line more
 one_line : (l : Fields) → file_text (l ∷ []) ≡ joined l ++ 10 ∷ []
 unfolding file_text
@@ -78,15 +74,13 @@ pub event_more : {X : Type 0} (line : X → Fields) (xs : List X) (i : ℕ) (x :
     → ((out ++ file_text (map line (take i xs))) ++ joined (line x)) ++ 10 ∷ [] ≡ out ++ file_text (map line (take (i + 1) xs))
 event_more line xs i x out lt is = ap (λ y. ((out ++ file_text (map line (take i xs))) ++ joined (line y)) ++ 10 ∷ []) is ∙ one_more_line line xs i x out lt
 
-pub call_pieces : (out w name op : List ℕ) (fs vs : Fields) → (((out ++ joined (w ∷ fs)) ++ 32 ∷ name) ++ 32 ∷ op) ++ spaced_fields vs ≡ out ++ joined (w ∷ (fs ++ name ∷ op ∷ vs))
-call_pieces out w name op fs vs =
-    ap (λ r. (r ++ 32 ∷ op) ++ spaced_fields vs) (one_field out w name fs) ∙ ap (λ r. r ++ spaced_fields vs) (one_field out w op (fs ++ name ∷ []))
-    ∙ more_fields out w ((fs ++ name ∷ []) ++ op ∷ []) vs
-    ∙ ap (λ gs. out ++ joined (w ∷ gs)) (append_assoc (fs ++ name ∷ []) (op ∷ []) vs ∙ append_assoc fs (name ∷ []) (op ∷ vs))
+-- fields one after the other
+pub one_more : (out a : List ℕ) (vs : Fields) → (out ++ 32 ∷ a) ++ spaced_fields vs ≡ out ++ spaced_fields (a ∷ vs)
+unfolding spaced_fields
+one_more out a vs = append_assoc out (32 ∷ a) (spaced_fields vs)
 
-pub begin_pieces : (out w txn : List ℕ) (fs vs : Fields) → ((out ++ joined (w ∷ fs)) ++ 32 ∷ txn) ++ spaced_fields vs ≡ out ++ joined (w ∷ (fs ++ txn ∷ vs))
-begin_pieces out w txn fs vs =
-    ap (λ r. r ++ spaced_fields vs) (one_field out w txn fs) ∙ more_fields out w (fs ++ txn ∷ []) vs ∙ ap (λ gs. out ++ joined (w ∷ gs)) (append_assoc fs (txn ∷ []) vs)
+pub two_more : (out a b : List ℕ) (vs : Fields) → ((out ++ 32 ∷ a) ++ 32 ∷ b) ++ spaced_fields vs ≡ out ++ spaced_fields (a ∷ b ∷ vs)
+two_more out a b vs = one_more (out ++ 32 ∷ a) b vs ∙ one_more out a (b ∷ vs)
 
 pub partition_pieces : (out w : List ℕ) (vs : Fields) → (out ++ w) ++ spaced_fields vs ≡ out ++ joined (w ∷ vs)
 partition_pieces out w vs = append_assoc out w (spaced_fields vs) ∙ ap (λ r. out ++ r) (sym (joined_spaced w vs))
@@ -120,6 +114,13 @@ object_more p names kinds i d e out lt same =
     ∙ ap (λ ls. out ++ file_text ls) (sym (lines_more p (take i names) (take i kinds) (get_or names i d) (get_or kinds i e) lens))
     ∙ ap (λ ms. out ++ file_text (object_lines p ms (take i kinds ++ get_or kinds i e ∷ []))) (sym ns)
     ∙ ap (λ ms. out ++ file_text (object_lines p (take (i + 1) names) ms)) (sym ks)
+
+-- the objects up to their number are all
+pub all_objects : (p : Program) (names : List (List ℕ)) (kinds : List TypeId) (k : ℕ) (out items : List ℕ) → length names ≤ k → length kinds ≡ length names
+    → items ≡ out ++ file_text (object_lines p (take k names) (take k kinds)) → items ≡ out ++ file_text (object_lines p names kinds)
+all_objects p names kinds k out items past same h =
+    h ∙ ap (λ ns. out ++ file_text (object_lines p ns (take k kinds))) (take_all k names past)
+    ∙ ap (λ ks. out ++ file_text (object_lines p names ks)) (take_all k kinds (omega (arith, past, same)))
 
 pub no_objects : (p : Program) (out : List ℕ) → out ≡ out ++ file_text (object_lines p [] [])
 unfolding object_lines

@@ -1,9 +1,10 @@
 -- The state of reading after one more line, and the content of a file that ends there.
-use Rattle.std.specs.Prelude.{ℕ, ◌≡◌, Some, None, Result, Ok, Err}
+use Rattle.std.specs.Prelude.{ℕ, ◌≡◌, Bool, true, false, Some, None, Result, Ok, Err}
 use Rattle.ql_lang.specs.declared.program.Program.{Program}
 use Rattle.ql_line_files.specs.declared.fault.Broken.{Broken}
 use Rattle.ql_line_files.specs.declared.fault.FileFault.{FileFault}
 use Rattle.ql_line_files.specs.declared.fault.FileFault.TheVariants as file
+use Rattle.ql_line_files.specs.declared.fault.LineFault.{LineFault}
 use Rattle.ql_lines.specs.Fields.{Fields}
 use Rattle.ql_schedule.specs.declared.event_line.EventLine.{EventLine}
 use Rattle.ql_schedule.specs.declared.fault.SchedFault.{SchedFault}
@@ -56,6 +57,17 @@ ExtendsSchedule p Untitled parts = ExtendsScheduleAs (IsTitle parts) (λ _. no_f
 ExtendsSchedule p (Titled version) parts = ExtendsScheduleAs (IsReplicas parts) replicas_faults (λ n. Declaring (of_replicas version n))
 ExtendsSchedule p (Declaring s) parts = ExtendsScheduleAs (IsDeclaration parts) (declaration_faults p s) (after_declaration p s)
 ExtendsSchedule p (Running s replicas) parts = ExtendsScheduleAs (IsEventIn s.version parts) (event_faults p s replicas) (after_event p s replicas)
+
+-- the state of reading after a declaration, given the schedule and whether it was the keyword before the events
+abbrev pub reading_after : Schedule → Result Bool (LineFault SchedRule) → Result Reading (LineFault SchedRule)
+reading_after s (Ok true) = Ok (Running s s.replicas)
+reading_after s (Ok false) = Ok (Declaring s)
+reading_after s (Err fault) = Err fault
+
+-- the state of reading after an event, given the schedule and the number of replicas after it
+abbrev pub running_after : Schedule → Result ℕ (LineFault SchedRule) → Result Reading (LineFault SchedRule)
+running_after s (Ok replicas) = Ok (Running s replicas)
+running_after s (Err fault) = Err fault
 
 -- ---- the end of a file
 

@@ -1,16 +1,18 @@
-ghost use Rattle.std.specs.Prelude.{◌≡◌, ◌++◌, OnOk, ◌<◌, ◌^◌, IfOk, None, All};
+ghost use Rattle.std.specs.Prelude.{◌≡◌, ◌++◌, OnOk, ◌<◌, ◌^◌, IfOk, None, All, false};
 ghost use Rattle.ql_schedule.specs.Arguments.{given, argument_values};
-ghost use Rattle.ql_schedule.specs.Judging.{event_faults};
+ghost use Rattle.ql_machine.specs.declared.event.Event.TheVariants as event;
+ghost use Rattle.ql_schedule.specs.Judging.{event_faults, is_caller_out};
 ghost use Rattle.ql_schedule.specs.Known.{AreNumbers};
 ghost use Rattle.ql_schedule.specs.Makings.{event_of};
 ghost use Rattle.ql_schedule.specs.Rules.{lowest};
 
 use crate::argument::Argument;
 use crate::event_line::EventLine;
+use crate::event_parts::Caller;
 use crate::known::Known;
 use crate::lists::Arguments;
 use crate::schedule::Schedule;
-use ql_base::{EffId, MsgId, NoMemory, ObjId, ReplicaId, SessId};
+use ql_base::{DeclId, EffId, IdSet, MsgId, NoMemory, ObjId, OpId, ReplicaId, SessId};
 use ql_machine::{Event, Groups};
 use ql_typing::Typed;
 use ql_value::{Value, Values};
@@ -30,31 +32,21 @@ pub(crate) fn event(
     ensures { IfOk result (λ e. e ≡ event_of t.now.program so_far.now line) }
 {
     match line {
-        EventLine::Call { caller, args, .. } => Ok(Event::Call {
-            session: SessId(caller.session as u32),
-            replica: replica(replicas, caller.replica),
-            object: ObjId(known.object.unwrap()),
-            op: known.op.unwrap(),
-            args: values(alloc, args)?,
-        }),
-        EventLine::Begin { caller, .. } => Ok(Event::Begin {
-            session: SessId(caller.session as u32),
-            replica: replica(replicas, caller.replica),
-            decl: known.decl.unwrap(),
-            objects: known.objects.unwrap(),
-        }),
-        EventLine::Commit(caller) => Ok(Event::Commit {
-            session: SessId(caller.session as u32),
-            replica: replica(replicas, caller.replica),
-        }),
+        EventLine::Call { caller, args, .. } => {
+            let object = ObjId(known.object.unwrap());
+            call(alloc, replicas, caller, object, known.op.unwrap(), args)
+        }
+        EventLine::Begin { caller, .. } => Ok(begin(
+            replicas,
+            caller,
+            known.decl.unwrap(),
+            known.objects.unwrap(),
+        )),
+        EventLine::Commit(caller) => Ok(commit(replicas, caller)),
         EventLine::Deliver(n) => Ok(Event::Deliver(MsgId(n as u32))),
         EventLine::Repeat(n) => Ok(Event::Repeat(MsgId(n as u32))),
         EventLine::Lose(n) => Ok(Event::Lose(MsgId(n as u32))),
-        EventLine::Resend { effect, from, to } => Ok(Event::Resend {
-            effect: EffId(effect as u32),
-            from: replica(replicas, from),
-            to: replica(replicas, to),
-        }),
+        EventLine::Resend { effect, from, to } => Ok(resend(replicas, effect, from, to)),
         EventLine::Partition(numbers) => Ok(Event::Partition(groups(alloc, numbers.items())?)),
         EventLine::Heal => Ok(Event::Heal),
         EventLine::Join { near, copy } => Ok(Event::Join {
@@ -62,6 +54,73 @@ pub(crate) fn event(
             copy,
         }),
     }
+}
+
+fn call(
+    alloc: Global,
+    replicas: u32,
+    caller: Caller,
+    object: ObjId,
+    op: OpId,
+    args: Arguments,
+) -> Result<Event, NoMemory>
+    requires { is_caller_out replicas caller ≡ false }
+    ensures { IfOk result
+        (λ e. e ≡ event.Call (record { 0 = caller.session }) (record { 0 = caller.replica }) object
+        op (argument_values args)) }
+{
+    Ok(Event::Call {
+        session: session(caller.session),
+        replica: replica(replicas, caller.replica),
+        object,
+        op,
+        args: values(alloc, args)?,
+    })
+}
+
+fn begin(replicas: u32, caller: Caller, decl: DeclId, objects: IdSet) -> Event
+    requires { is_caller_out replicas caller ≡ false }
+    ensures { result
+        ≡ event.Begin (record { 0 = caller.session }) (record { 0 = caller.replica }) decl objects }
+{
+    Event::Begin {
+        session: session(caller.session),
+        replica: replica(replicas, caller.replica),
+        decl,
+        objects,
+    }
+}
+
+fn commit(replicas: u32, caller: Caller) -> Event
+    requires { is_caller_out replicas caller ≡ false }
+    ensures { result
+        ≡ event.Commit (record { 0 = caller.session }) (record { 0 = caller.replica }) }
+{
+    Event::Commit {
+        session: session(caller.session),
+        replica: replica(replicas, caller.replica),
+    }
+}
+
+fn resend(replicas: u32, effect: u64, from: u64, to: u64) -> Event
+    requires effect { effect < 2 ^ 32 }
+    requires from { from < replicas }
+    requires to { to < replicas }
+    ensures { result
+        ≡ event.Resend (record { 0 = effect }) (record { 0 = from }) (record { 0 = to }) }
+{
+    Event::Resend {
+        effect: EffId(effect as u32),
+        from: replica(replicas, from),
+        to: replica(replicas, to),
+    }
+}
+
+fn session(number: u64) -> SessId
+    requires { number < 2 ^ 32 }
+    ensures { result ≡ record { 0 = number } }
+{
+    SessId(number as u32)
 }
 
 fn replica(replicas: u32, number: u64) -> ReplicaId

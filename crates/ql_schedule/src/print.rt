@@ -1,5 +1,7 @@
-ghost use Rattle.std.specs.Prelude.{◌≡◌, ◌<◌, ◌++◌, ◌∷◌, [], IfOk, OnOk, All, Some, decimal, length, map, slice_get};
+ghost use Rattle.std.specs.Prelude.{◌≡◌, ◌<◌, ◌++◌, ◌∷◌, [], IfOk, OnOk, All, Some, codes, decimal, length, map, slice_get};
 ghost use Rattle.ql_lines.specs.Texts.{spaced_fields, file_text, joined};
+ghost use Rattle.ql_typing.specs.Names.{op_name, txn_name};
+ghost use Rattle.ql_typing.specs.Operations.{all_ops};
 ghost use Rattle.ql_value.specs.Spelling.{quoted, value_text};
 ghost use Rattle.ql_schedule.specs.Texts.{
   AreNamed,
@@ -13,7 +15,10 @@ ghost use Rattle.ql_schedule.specs.Texts.{
 };
 
 use crate::schedule::Schedule;
-use ql_base::{Names, NoMemory, ReplicaId, SessId, TypeId, Word, push_bytes, push_number};
+use ql_base::{
+    DeclId, EffId, Names, NoMemory, ObjId, OpId, ReplicaId, SessId, TypeId, Word, push_bytes,
+    push_number,
+};
 use ql_machine::Event;
 use ql_typing::Typed;
 use ql_value::{Value, print_value};
@@ -96,9 +101,7 @@ fn push_event(out: &mut Vec<u8>, t: &Typed, objects: &Names, event: &Event) -> R
             args,
         } => {
             push_caller(out, b"call", *session, *replica)?;
-            push_field(out, objects.name(object.0).bytes())?;
-            push_field(out, t.op(*op).name.word.bytes())?;
-            push_values(out, args.items())
+            push_call(out, t, objects, *object, *op, args.items())
         }
         Event::Begin {
             session,
@@ -107,18 +110,13 @@ fn push_event(out: &mut Vec<u8>, t: &Typed, objects: &Names, event: &Event) -> R
             objects: ids,
         } => {
             push_caller(out, b"begin", *session, *replica)?;
-            push_field(out, t.txn(*decl).name.word.bytes())?;
-            push_names(out, objects, ids.items())
+            push_txn(out, t, objects, *decl, ids.items())
         }
         Event::Commit { session, replica } => push_caller(out, b"commit", *session, *replica),
         Event::Deliver(m) => push_numbered(out, b"deliver", m.0),
         Event::Repeat(m) => push_numbered(out, b"repeat", m.0),
         Event::Lose(m) => push_numbered(out, b"lose", m.0),
-        Event::Resend { effect, from, to } => {
-            push_numbered(out, b"resend", effect.0)?;
-            push_numbered(out, b" from", from.0)?;
-            push_numbered(out, b" to", to.0)
-        }
+        Event::Resend { effect, from, to } => push_resend(out, *effect, *from, *to),
         Event::Partition(groups) => {
             push_bytes(out, b"partition")?;
             push_numbers(out, groups.items())
@@ -127,6 +125,61 @@ fn push_event(out: &mut Vec<u8>, t: &Typed, objects: &Names, event: &Event) -> R
         Event::Join { near, copy: true } => push_numbered(out, b"join copy", near.0),
         Event::Join { near, copy: false } => push_numbered(out, b"join bare", near.0),
     }
+}
+
+// An object, an operation and its arguments.
+fn push_call(
+    out: &mut Vec<u8>,
+    t: &Typed,
+    objects: &Names,
+    object: ObjId,
+    op: OpId,
+    args: &[Value],
+) -> Result<(), NoMemory>
+    requires object { object.0 < length objects.now }
+    requires op { op.0 < length (all_ops t.now.program.types) }
+    ensures { OnOk result
+        (out.new.items ≡ out.old.items
+        ++ spaced_fields (name_at objects.now object.0 ∷ op_name t.now.program op.0
+        ∷ map value_text args.now)) }
+{
+    push_field(out, objects.name(object.0).bytes())?;
+    push_field(out, t.op(op).name.word.bytes())?;
+    push_values(out, args)
+}
+
+// A declared transaction and its objects.
+fn push_txn(
+    out: &mut Vec<u8>,
+    t: &Typed,
+    objects: &Names,
+    decl: DeclId,
+    ids: &[u32],
+) -> Result<(), NoMemory>
+    requires decl { decl.0 < length t.now.program.txns }
+    requires ids { All (λ k. k < length objects.now) ids.now }
+    ensures { OnOk result
+        (out.new.items ≡ out.old.items
+        ++ spaced_fields (txn_name t.now.program decl.0 ∷ map (name_at objects.now) ids.now)) }
+{
+    push_field(out, t.txn(decl).name.word.bytes())?;
+    push_names(out, objects, ids)
+}
+
+fn push_resend(
+    out: &mut Vec<u8>,
+    effect: EffId,
+    from: ReplicaId,
+    to: ReplicaId,
+) -> Result<(), NoMemory>
+    ensures { OnOk result
+        (out.new.items ≡ out.old.items
+        ++ joined (codes "resend" ∷ decimal effect.0 ∷ codes "from" ∷ decimal from.0
+        ∷ codes "to" ∷ decimal to.0 ∷ [])) }
+{
+    push_numbered(out, b"resend", effect.0)?;
+    push_numbered(out, b" from", from.0)?;
+    push_numbered(out, b" to", to.0)
 }
 
 // A keyword, and a session at a replica.

@@ -1,26 +1,27 @@
-ghost use Rattle.std.specs.Prelude.{◌≡◌, false, IfOk, MatchResult, None, Some};
+ghost use Rattle.std.specs.Prelude.{◌≡◌, false, IfOk, OnOk, MatchResult, None, Some};
+ghost use Rattle.std.specs.Result.{result_err};
 ghost use Rattle.ql_lang.specs.declared.program.Program.{Program};
 ghost use Rattle.ql_line_files.specs.Answers.{IsLineAnswer};
 ghost use Rattle.ql_line_files.specs.declared.fault.LineFault.TheVariants.{Breaks};
 ghost use Rattle.ql_schedule.specs.declared.header.Declaration.TheVariants.{Object};
 ghost use Rattle.ql_schedule.specs.declared.rules.SchedRule.{SchedRule};
 ghost use Rattle.ql_schedule.specs.declared.reading.Reading.TheVariants.{Declaring, Running, Titled, Untitled};
-ghost use Rattle.ql_schedule.specs.Judging.{declaration_faults, is_full};
-ghost use Rattle.ql_schedule.specs.Makings.{replicas_with, with_event, with_object};
-ghost use Rattle.ql_schedule.specs.Outcomes.{ExtendsSchedule};
+ghost use Rattle.ql_schedule.specs.Judging.{declaration_faults, event_faults, is_full};
+ghost use Rattle.ql_schedule.specs.Known.{AreNumbers};
+ghost use Rattle.ql_schedule.specs.Makings.{replicas_with, with_object};
+ghost use Rattle.ql_schedule.specs.Outcomes.{ExtendsSchedule, reading_after, running_after};
 ghost use Rattle.ql_schedule.specs.Parts.{parts_of};
 ghost use Rattle.ql_schedule.specs.Rules.{lowest};
 
 use crate::event_line::{EventLine, read_event};
 use crate::header::{Declaration, read_declaration, read_replicas, read_title};
 use crate::judging::{declaration_faults, event_faults, replicas_faults};
-use crate::known::look_up;
+use crate::known::{Known, look_up};
 use crate::making::event;
 use crate::rules::{Faults, SchedRule};
 use crate::schedule::{Events, Schedule, TypeIds};
 use ql_base::{Names, NoMemory, TypeId, Word};
 use ql_line_files::LineFault;
-use ql_machine::Event;
 use ql_typing::Typed;
 use std::alloc::Global;
 
@@ -84,43 +85,46 @@ fn declare(t: &Typed, so_far: Schedule, text: &[u8]) -> Result<Reading, LineFaul
     ensures { IsLineAnswer (ExtendsSchedule t.now.program (Declaring so_far) (parts_of text.now))
         result }
 {
-    let Some(line) = read_declaration(text) else {
-        return Err(LineFault::Breaks(SchedRule::Unexpected));
-    };
-    check(declaration_faults(t, &so_far, &line))?;
-    match &line {
-        Declaration::Object { name, kind } => {
-            let more = with_object(t, so_far, name, kind)?;
-            Ok(Reading::Declaring(more))
-        }
-        Declaration::Events => {
-            let replicas = so_far.replicas;
-            Ok(Reading::Running(so_far, replicas))
-        }
+    let mut read = so_far;
+    if take_declaration(t, &mut read, text)? {
+        let replicas = read.replicas;
+        Ok(Reading::Running(read, replicas))
+    } else {
+        Ok(Reading::Declaring(read))
     }
 }
 
-// Adds an object.
-fn with_object(t: &Typed, so_far: Schedule, name: &Word, kind: &Word) -> Result<Schedule, NoMemory>
-    requires { lowest (declaration_faults t.now.program so_far (Object name.now kind.now)) ≡ None }
-    ensures { IfOk result (λ more. more ≡ with_object t.now.program so_far name.now kind.now) }
+// Whether a line is the keyword before the events. The object of any other is added.
+fn take_declaration(
+    t: &Typed,
+    so_far: &mut Schedule,
+    text: &[u8],
+) -> Result<bool, LineFault<SchedRule>>
+    ensures { IsLineAnswer
+        (ExtendsSchedule t.now.program (Declaring so_far.old) (parts_of text.now))
+        (reading_after so_far.new result) }
 {
-    let Schedule {
-        version,
-        replicas,
-        mut objects,
-        mut kinds,
-        events,
-    } = so_far;
-    objects.number(name.bytes())?;
-    kinds.push(t.type_named(kind.bytes()).unwrap())?;
-    Ok(Schedule {
-        version,
-        replicas,
-        objects,
-        kinds,
-        events,
-    })
+    let Some(line) = read_declaration(text) else {
+        return Err(LineFault::Breaks(SchedRule::Unexpected));
+    };
+    check(declaration_faults(t, so_far, &line))?;
+    match &line {
+        Declaration::Object { name, kind } => {
+            add_object(t, so_far, name, kind)?;
+            Ok(false)
+        }
+        Declaration::Events => Ok(true),
+    }
+}
+
+fn add_object(t: &Typed, so_far: &mut Schedule, name: &Word, kind: &Word) -> Result<(), NoMemory>
+    requires { lowest (declaration_faults t.now.program so_far.old (Object name.now kind.now))
+        ≡ None }
+    ensures { OnOk result
+        (so_far.new ≡ with_object t.now.program so_far.old name.now kind.now) }
+{
+    so_far.objects.number(name.bytes())?;
+    so_far.kinds.push(t.type_named(kind.bytes()).unwrap())
 }
 
 // Reads one more event.
@@ -134,15 +138,48 @@ fn happen(
     ensures { IsLineAnswer
         (ExtendsSchedule t.now.program (Running so_far replicas) (parts_of text.now)) result }
 {
+    let mut read = so_far;
+    let later = take_event(alloc, t, &mut read, replicas, text)?;
+    Ok(Reading::Running(read, later))
+}
+
+// Adds the event of a line, and returns how many replicas there are after it.
+fn take_event(
+    alloc: Global,
+    t: &Typed,
+    so_far: &mut Schedule,
+    replicas: u32,
+    text: &[u8],
+) -> Result<u32, LineFault<SchedRule>>
+    ensures { IsLineAnswer
+        (ExtendsSchedule t.now.program (Running so_far.old replicas) (parts_of text.now))
+        (running_after so_far.new result) }
+{
     let Some(line) = read_event(alloc, so_far.version, text)? else {
         return Err(LineFault::Breaks(SchedRule::Unexpected));
     };
-    let known = look_up(alloc, t, &so_far, &line)?;
-    check(event_faults(t, &so_far, replicas, &line, &known))?;
+    let known = judge(alloc, t, so_far, replicas, &line)?;
     let later = replicas_with(replicas, &line);
-    let event = event(alloc, t, &so_far, replicas, line, known)?;
-    let more = with_event(so_far, event)?;
-    Ok(Reading::Running(more, later))
+    let event = event(alloc, t, so_far, replicas, line, known)?;
+    so_far.events.push(event)?;
+    Ok(later)
+}
+
+// The numbers of the names of an event that breaks no rule, or the lowest rule that it breaks.
+fn judge(
+    alloc: Global,
+    t: &Typed,
+    so_far: &Schedule,
+    replicas: u32,
+    line: &EventLine,
+) -> Result<Known, LineFault<SchedRule>>
+    ensures numbers { IfOk result (AreNumbers t.now.program so_far.now line.now) }
+    ensures judged { IsLineAnswer
+        (λ x. lowest (event_faults t.now.program so_far.now replicas line.now) ≡ result_err x) result }
+{
+    let known = look_up(alloc, t, so_far, line)?;
+    check(event_faults(t, so_far, replicas, line, &known))?;
+    Ok(known)
 }
 
 // How many replicas there are after a line.
@@ -154,14 +191,6 @@ fn replicas_with(replicas: u32, line: &EventLine) -> u32
         EventLine::Join { .. } => replicas + 1,
         _ => replicas,
     }
-}
-
-fn with_event(so_far: Schedule, event: Event) -> Result<Schedule, NoMemory>
-    ensures { IfOk result (λ more. more ≡ with_event so_far event) }
-{
-    let mut more = so_far;
-    more.events.push(event)?;
-    Ok(more)
 }
 
 // Refuses a line for the lowest rule that it breaks.
