@@ -18,7 +18,7 @@ use std::alloc::Global;
 /// transaction by itself.
 ///
 /// Executions grow while a holder exists: its contract covers each execution that it fits.
-pub trait Holder: Drop {
+pub trait Holder: Sized + Drop {
     // The list of what was received.
     ghost received: { Self → List ℕ };
 
