@@ -15,6 +15,7 @@ use Rattle.ql_exec.specs.declared.effect.Member.TheVariants.{Alone, Inside}
 use Rattle.ql_exec.specs.declared.fault.ExecFault.{ExecFault}
 use Rattle.ql_exec.specs.declared.fault.ExecFault.TheVariants as exec
 use Rattle.ql_exec.specs.Execution.{effect_of, fault_of, stamp_of}
+use Rattle.ql_line_files.specs.declared.fault.LineFault.{LineFault}
 use Rattle.ql_effect_lines.specs.declared.effect_line.EffectLine.{EffectLine}
 use Rattle.ql_effect_lines.specs.declared.rules.ReportRule.{ReportRule}
 use Rattle.ql_effect_lines.specs.declared.rules.ReportRule.TheVariants.{Unknown, Mixed, Stamp, NotForward, OtherObject, SplitTxn, TooMany}
@@ -95,6 +96,12 @@ with_draft read draft stamp =
     else (if nat_le most_effects (length read.effects) then Err TooMany
     else Ok (with_read_effect read draft)))
 
+-- the number of the object of an effect with an operation of the object's type
+abbrev pub object_of_type : Program → EffectsRead → List ℕ → OpId → Result ObjId ReportRule
+object_of_type p read w op =
+    if is_mixed p read.effects (record { 0 = object_number read.objects w }) op then Err Mixed
+    else Ok (record { 0 = object_number read.objects w })
+
 -- an effect of an operation and a membership that the program has
 abbrev pub after_known : Program → EffectsRead → EffectLine → OpId → Member → Result EffectsRead ReportRule
 after_known p read e op member =
@@ -104,3 +111,8 @@ after_known p read e op member =
 -- what the lines say with the line of one more effect, or the lowest rule that it breaks
 abbrev pub after_effect : Program → EffectsRead → EffectLine → Result EffectsRead ReportRule
 after_effect p read e = option_map_or (λ known. after_known p read e known.0 known.1) (known_of p e) (Err Unknown)
+
+-- a reader's answer, with the effects that it leaves behind
+abbrev pub with_state : {U : Type 0} → EffectsRead → Result U (LineFault ReportRule) → Result EffectsRead (LineFault ReportRule)
+with_state read (Ok u) = Ok read
+with_state read (Err fault) = Err fault

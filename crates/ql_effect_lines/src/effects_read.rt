@@ -1,4 +1,4 @@
-ghost use Rattle.std.specs.Prelude.{◌≡◌, ◌≤◌, ◌<◌, ◌+◌, ◌^◌, IfOk, IfSome, Option, length};
+ghost use Rattle.std.specs.Prelude.{◌≡◌, ◌≤◌, ◌<◌, ◌+◌, ◌^◌, IfOk, OnOk, IfSome, Option, length};
 ghost use Rattle.std.specs.Option.{option_copied};
 ghost use Rattle.ql_base.specs.Numbering.{with_name};
 ghost use Rattle.ql_line_files.specs.Answers.{IsLineAnswer};
@@ -17,7 +17,10 @@ ghost use Rattle.ql_effect_lines.specs.Effects.{
   member_of_line,
   most_effects,
   object_number,
+  object_of_type,
   with_draft,
+  with_object_name,
+  with_state,
 };
 
 use crate::effect_line::EffectLine;
@@ -43,46 +46,74 @@ impl EffectsRead {
         requires known { AreOfProgram t.now.program self.effects }
         ensures { IsLineAnswer (λ x. (after_effect t.now.program self line) ≡ x) result }
     {
+        let mut read = self;
+        read.add(t, line)?;
+        Ok(read)
+    }
+
+    // The same in place.
+    fn add(&mut self, t: &Typed, line: EffectLine) -> Result<(), LineFault<ReportRule>>
+        requires few { length self.old.effects ≤ most_effects }
+        requires named { length self.old.objects ≤ length self.old.effects }
+        requires known { AreOfProgram t.now.program self.old.effects }
+        ensures { IsLineAnswer (λ x. (after_effect t.now.program self.old line) ≡ x)
+            (with_state self.new result) }
+    {
         match known(t, &line) {
-            Some((op, member)) => self.put_known(t, line, op, member),
+            Some((op, member)) => self.add_known(t, line, op, member),
             None => Err(LineFault::Breaks(ReportRule::Unknown)),
         }
     }
 
     // The same for an effect with this operation and this membership.
-    fn put_known(
-        self,
+    fn add_known(
+        &mut self,
         t: &Typed,
         line: EffectLine,
         op: OpId,
         member: Member,
-    ) -> Result<EffectsRead, LineFault<ReportRule>>
-        requires few { length self.effects ≤ most_effects }
-        requires named { length self.objects ≤ length self.effects }
-        requires known { AreOfProgram t.now.program self.effects }
+    ) -> Result<(), LineFault<ReportRule>>
+        requires few { length self.old.effects ≤ most_effects }
+        requires named { length self.old.objects ≤ length self.old.effects }
+        requires known { AreOfProgram t.now.program self.old.effects }
         requires op { op.0 < length (all_ops t.now.program.types) }
-        ensures { IsLineAnswer (λ x. (after_known t.now.program self line op member) ≡ x) result }
+        ensures { IsLineAnswer (λ x. (after_known t.now.program self.old line op member) ≡ x)
+            (with_state self.new result) }
     {
-        let EffectsRead {
-            mut objects,
-            effects,
-        } = self;
-        let object = ObjId(number(&mut objects, &line.object)?);
-        if is_mixed(t, effects.effects(), object, op) {
+        let object = self.number_object(t, &line.object, op)?;
+        let stamp = line.setting.stamp;
+        self.push(draft(line, object, op, member), stamp)
+    }
+
+    // The number of the object of an effect with this operation, which is of the object's type.
+    fn number_object(
+        &mut self,
+        t: &Typed,
+        name: &Word,
+        op: OpId,
+    ) -> Result<ObjId, LineFault<ReportRule>>
+        requires few { length self.old.effects ≤ most_effects }
+        requires named { length self.old.objects ≤ length self.old.effects }
+        requires known { AreOfProgram t.now.program self.old.effects }
+        requires op { op.0 < length (all_ops t.now.program.types) }
+        ensures numbered { IsLineAnswer
+            (λ x. object_of_type t.now.program self.old name.now op ≡ x) result }
+        ensures named { OnOk result (self.new ≡ with_object_name self.old name.now) }
+    {
+        let object = ObjId(number(&mut self.objects, name)?);
+        if is_mixed(t, self.effects.effects(), object, op) {
             return Err(LineFault::Breaks(ReportRule::Mixed));
         }
-        let stamp = line.setting.stamp;
-        let read = EffectsRead { objects, effects };
-        read.push(draft(line, object, op, member), stamp)
+        Ok(object)
     }
 
     // Appends one more effect, which has to have this stamp.
-    fn push(self, draft: Draft, stamp: u32) -> Result<EffectsRead, LineFault<ReportRule>>
-        requires few { length self.effects ≤ most_effects }
-        ensures { IsLineAnswer (λ x. (with_draft self draft stamp) ≡ x) result }
+    fn push(&mut self, draft: Draft, stamp: u32) -> Result<(), LineFault<ReportRule>>
+        requires few { length self.old.effects ≤ most_effects }
+        ensures { IsLineAnswer (λ x. (with_draft self.old draft stamp) ≡ x)
+            (with_state self.new result) }
     {
-        let mut read = self;
-        match read.effects.push(draft) {
+        match self.effects.push(draft) {
             Ok(_) => {}
             Err(ExecFault::NotForward(_)) => return Err(LineFault::Breaks(ReportRule::NotForward)),
             Err(ExecFault::OtherObject(_)) => return Err(LineFault::Breaks(
@@ -91,14 +122,14 @@ impl EffectsRead {
             Err(ExecFault::SplitTxn(_)) => return Err(LineFault::Breaks(ReportRule::SplitTxn)),
             Err(ExecFault::NoMemory) => return Err(LineFault::NoMemory),
         }
-        let count = read.effects.len();
-        if read.effects.get(EffId(count)).stamp != stamp {
+        let count = self.effects.len();
+        if self.effects.get(EffId(count)).stamp != stamp {
             return Err(LineFault::Breaks(ReportRule::Stamp));
         }
         if count > MAX_EFFECTS {
             return Err(LineFault::Breaks(ReportRule::TooMany));
         }
-        Ok(read)
+        Ok(())
     }
 }
 

@@ -33,21 +33,21 @@ module _ (read : EffectsRead) (d : Draft) (stamp : ℕ) (none : fault_of read.ef
 
 pub returns-then-get-stamp : goal.returns-then-get-stamp
 returns-then-get-stamp c =
-    let x = c.args.self.effects in
+    let x = c.args.self.now.effects in
     let same = stamped x c.push.new.self c.args.draft c.len-count.result c.get.result.now c.in-Ok.ensures.pushed c.len-count.ensures.length c.get.ensures in
-    other_stamp c.args.self c.args.draft c.args.stamp c.in-Ok.ensures.answer.0 (λ is. c.if-get-stamp.true (same ∙ is))
+    other_stamp c.args.self.now c.args.draft c.args.stamp c.in-Ok.ensures.answer.0 (λ is. c.if-get-stamp.true (same ∙ is))
 
 pub returns-then-count-gt-MAX_EFFECTS : goal.returns-then-count-gt-MAX_EFFECTS
 returns-then-count-gt-MAX_EFFECTS c =
-    let x = c.args.self.effects in
+    let x = c.args.self.now.effects in
     let same = stamped x c.push.new.self c.args.draft c.len-count.result c.get.result.now c.in-Ok.ensures.pushed c.len-count.ensures.length c.get.ensures in
     let count = one_longer x c.push.new.self _ c.len-count.result c.in-Ok.ensures.pushed c.len-count.ensures.length in
-    too_many c.args.self c.args.draft c.args.stamp c.in-Ok.ensures.answer.0 (sym same ∙ c.if-get-stamp.false) (omega (arith, count, c.if-count-gt-MAX_EFFECTS.true))
+    too_many c.args.self.now c.args.draft c.args.stamp c.in-Ok.ensures.answer.0 (sym same ∙ c.if-get-stamp.false) (omega (arith, count, c.if-count-gt-MAX_EFFECTS.true))
 
 pub returns : goal.returns
 returns c =
-    let x = c.args.self.effects in
+    let x = c.args.self.now.effects in
     let same = stamped x c.push.new.self c.args.draft c.len-count.result c.get.result.now c.in-Ok.ensures.pushed c.len-count.ensures.length c.get.ensures in
     let count = one_longer x c.push.new.self _ c.len-count.result c.in-Ok.ensures.pushed c.len-count.ensures.length in
-    taken c.args.self c.args.draft c.args.stamp c.in-Ok.ensures.answer.0 (sym same ∙ c.if-get-stamp.false) (omega (arith, count, c.if-count-gt-MAX_EFFECTS.false))
-    ∙ ap (λ (y : List Effect). let read : EffectsRead = record { objects = c.args.self.objects; effects = y } in Ok read) (sym c.in-Ok.ensures.pushed)
+    taken c.args.self.now c.args.draft c.args.stamp c.in-Ok.ensures.answer.0 (sym same ∙ c.if-get-stamp.false) (omega (arith, count, c.if-count-gt-MAX_EFFECTS.false))
+    ∙ ap (λ (y : List Effect). let read : EffectsRead = record { objects = c.args.self.now.objects; effects = y } in Ok read) (sym c.in-Ok.ensures.pushed)
