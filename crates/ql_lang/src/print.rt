@@ -20,7 +20,7 @@ ghost use Rattle.ql_lang.specs.Trees.{proposition_of, relation_of, sentence_of};
 use crate::contract::{Contract, Point, Prop, Var};
 use crate::name::Name;
 use crate::relation::{Rel, RelName};
-use ql_base::{NoMemory, push_bytes};
+use ql_base::{NoMemory, push_all, push_bytes};
 use std::alloc::Global;
 
 /// The text of a contract: its tree has this one spelling, whatever the source offsets.
@@ -166,9 +166,7 @@ fn push_application(
         ++ application_text (relation_of relation.now) left.now right.now) }
 {
     if let Rel::Base(RelName::Eq, _) = relation {
-        push_bytes(out, term_bytes(left))?;
-        push_bytes(out, b" = ")?;
-        return push_bytes(out, term_bytes(right));
+        return push_all(out, &[term_bytes(left), b" = ", term_bytes(right)]);
     }
     push_relation(out, relation)?;
     push_arguments(out, left, right)
@@ -180,11 +178,10 @@ fn push_arguments(out: &mut Vec<u8>, left: &Point, right: &Point) -> Result<(), 
         (out.new.items ≡ out.old.items ++ (codes "(") ++ term_text left.now ++ (codes ", ")
         ++ term_text right.now ++ (codes ")")) }
 {
-    push_bytes(out, b"(")?;
-    push_bytes(out, term_bytes(left))?;
-    push_bytes(out, b", ")?;
-    push_bytes(out, term_bytes(right))?;
-    push_bytes(out, b")")
+    push_all(
+        out,
+        &[b"(", term_bytes(left), b", ", term_bytes(right), b")"],
+    )
 }
 
 fn push_relation(out: &mut Vec<u8>, relation: &Rel) -> Result<(), NoMemory>

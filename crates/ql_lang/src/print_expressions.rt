@@ -11,7 +11,7 @@ ghost use Rattle.ql_lang.specs.ExpressionSpelling.{
 ghost use Rattle.ql_lang.specs.Spelling.{in_brackets, listed};
 
 use crate::expression::{BinOp, Expr, ExprNode};
-use ql_base::{NoMemory, push_bytes, push_number};
+use ql_base::{NoMemory, push_all, push_bytes, push_number};
 
 // Appends the text of an expression.
 #[cycle(expression)]
@@ -26,8 +26,7 @@ pub(crate) fn push_expression(out: &mut Vec<u8>, e: &Expr) -> Result<(), NoMemor
         ExprNode::Unit => push_bytes(out, b"unit"),
         ExprNode::Var(name) => push_bytes(out, name.word.bytes()),
         ExprNode::Call(name, args) => {
-            push_bytes(out, name.word.bytes())?;
-            push_bytes(out, b"(")?;
+            push_all(out, &[name.word.bytes(), b"("])?;
             push_arguments(out, args.items())?;
             push_bytes(out, b")")
         }
@@ -41,9 +40,7 @@ pub(crate) fn push_expression(out: &mut Vec<u8>, e: &Expr) -> Result<(), NoMemor
         }
         ExprNode::Binary(op, left, right) => {
             push_operand(out, left)?;
-            push_bytes(out, b" ")?;
-            push_bytes(out, operator_word(*op))?;
-            push_bytes(out, b" ")?;
+            push_all(out, &[b" ", operator_word(*op), b" "])?;
             push_operand(out, right)
         }
         ExprNode::Not(operand) => {
@@ -109,9 +106,7 @@ fn is_compound(e: &Expr) -> bool
 pub(crate) fn push_quoted(out: &mut Vec<u8>, text: &[u8]) -> Result<(), NoMemory>
     ensures { OnOk result (out.new.items ≡ out.old.items ++ quoted text.now) }
 {
-    push_bytes(out, b"\"")?;
-    push_bytes(out, text)?;
-    push_bytes(out, b"\"")
+    push_all(out, &[b"\"", text, b"\""])
 }
 
 pub(crate) fn truth_word(b: bool) -> &'static [u8]

@@ -36,7 +36,7 @@ use crate::operation::{Base, Bind, EmitDecl, Kind, OpDecl, Param, Stmt};
 use crate::print::{push_contract, push_names};
 use crate::print_expressions::{push_expression, push_quoted, truth_word};
 use crate::program::{Field, InitNode, Program, TxnDecl, TypeDecl};
-use ql_base::{NoMemory, push_bytes, push_number};
+use ql_base::{NoMemory, push_all, push_bytes, push_number};
 use std::alloc::Global;
 
 /// The text of a whole source: its tree has this one spelling, whatever the source offsets. Each field, contract,
@@ -65,9 +65,7 @@ fn push_type(out: &mut Vec<u8>, decl: &TypeDecl) -> Result<(), NoMemory>
     ensures { OnOk result
         (out.new.items ≡ out.old.items ++ replicated_text (replicated_of decl.now)) }
 {
-    push_bytes(out, b"type ")?;
-    push_bytes(out, decl.name.word.bytes())?;
-    push_bytes(out, b" {\n")?;
+    push_all(out, &[b"type ", decl.name.word.bytes(), b" {\n"])?;
     push_fields(out, decl.fields.items())?;
     push_operations(out, decl.ops.items())?;
     push_bytes(out, b"}\n")
@@ -85,9 +83,7 @@ fn push_fields(out: &mut Vec<u8>, fields: &[Field]) -> Result<(), NoMemory>
 fn push_field(out: &mut Vec<u8>, field: &Field) -> Result<(), NoMemory>
     ensures { OnOk result (out.new.items ≡ out.old.items ++ field_text field.now) }
 {
-    push_bytes(out, b"  state ")?;
-    push_bytes(out, field.name.word.bytes())?;
-    push_bytes(out, b": ")?;
+    push_all(out, &[b"  state ", field.name.word.bytes(), b": "])?;
     push_kind(out, field.kind)?;
     push_bytes(out, b" = ")?;
     push_init(out, &field.init.node)?;
@@ -102,18 +98,11 @@ fn push_kind(out: &mut Vec<u8>, kind: Kind) -> Result<(), NoMemory>
         Kind::Int => push_bytes(out, b"int"),
         Kind::Bool => push_bytes(out, b"bool"),
         Kind::Text => push_bytes(out, b"text"),
-        Kind::Set(element) => {
-            push_bytes(out, b"set(")?;
-            push_bytes(out, base_word(element))?;
-            push_bytes(out, b")")
-        }
-        Kind::Map(key, value) => {
-            push_bytes(out, b"map(")?;
-            push_bytes(out, base_word(key))?;
-            push_bytes(out, b", ")?;
-            push_bytes(out, base_word(value))?;
-            push_bytes(out, b")")
-        }
+        Kind::Set(element) => push_all(out, &[b"set(", base_word(element), b")"]),
+        Kind::Map(key, value) => push_all(
+            out,
+            &[b"map(", base_word(key), b", ", base_word(value), b")"],
+        ),
     }
 }
 
@@ -163,8 +152,7 @@ fn push_operation(out: &mut Vec<u8>, op: &OpDecl) -> Result<(), NoMemory>
 fn push_signature(out: &mut Vec<u8>, op: &OpDecl) -> Result<(), NoMemory>
     ensures { OnOk result (out.new.items ≡ out.old.items ++ signature_text (operation_of op.now)) }
 {
-    push_bytes(out, op.name.word.bytes())?;
-    push_bytes(out, b"(")?;
+    push_all(out, &[op.name.word.bytes(), b"("])?;
     push_params(out, op.params.items())?;
     push_bytes(out, b"): ")?;
     push_kind(out, op.kind)
@@ -281,9 +269,7 @@ fn push_statement(out: &mut Vec<u8>, stmt: &Stmt) -> Result<(), NoMemory>
     ensures { OnOk result
         (out.new.items ≡ out.old.items ++ assignment_text (assignment_of stmt.now)) }
 {
-    push_bytes(out, b"      ")?;
-    push_bytes(out, stmt.target.word.bytes())?;
-    push_bytes(out, b" := ")?;
+    push_all(out, &[b"      ", stmt.target.word.bytes(), b" := "])?;
     push_expression(out, &stmt.value)?;
     push_bytes(out, b";\n")
 }
@@ -303,9 +289,7 @@ fn push_transaction(out: &mut Vec<u8>, txn: &TxnDecl) -> Result<(), NoMemory>
     ensures { OnOk result
         (out.new.items ≡ out.old.items ++ transaction_text (transaction_of txn.now)) }
 {
-    push_bytes(out, b"transaction ")?;
-    push_bytes(out, txn.name.word.bytes())?;
-    push_bytes(out, b" {\n")?;
+    push_all(out, &[b"transaction ", txn.name.word.bytes(), b" {\n"])?;
     push_uses(out, txn.uses.items())?;
     push_bytes(out, b"  contract ")?;
     push_contract(out, &txn.contract)?;

@@ -37,7 +37,7 @@ ghost use Rattle.ql_parse.specs.Readings.{
 };
 
 use crate::fault::Refusal;
-use crate::junction::{Junction, boxed};
+use crate::junction::{Junction, both, boxed};
 use crate::reader::Reader;
 use ql_grammar::{Role, Terminal};
 use ql_lang::{Contract, NameList, Point, Points, Prop, Rel, RelName, Var, Vars};
@@ -229,8 +229,8 @@ impl Reader<'_> {
         ensures refused { IfErr result
             (IsTurnRefused (more_props junction) (AProp (proposition_of left)) self.old) }
     {
-        self.take(junction.prop_mark(), Role::Makes(1))?;
-        let right = self.prop_operand(alloc, junction)?;
+        let left = self.past(left, junction.prop_mark(), Role::Makes(1))?;
+        let (left, right) = both(left, self.prop_operand(alloc, junction))?;
         let (left, right) = boxed(alloc, left, right)?;
         Ok(junction.of_props(left, right))
     }
@@ -247,8 +247,8 @@ impl Reader<'_> {
         if !self.sees(Terminal::Arrow) {
             return Ok(left);
         }
-        self.take(Terminal::Arrow, Role::Makes(1))?;
-        let right = self.prop(alloc)?;
+        let left = self.past(left, Terminal::Arrow, Role::Makes(1))?;
+        let (left, right) = both(left, self.prop(alloc))?;
         let (left, right) = boxed(alloc, left, right)?;
         Ok(Prop::Implies(left, right))
     }

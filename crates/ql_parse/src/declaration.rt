@@ -81,6 +81,7 @@ ghost use Rattle.ql_parse.specs.Readings.{
 
 use crate::expression::Operand;
 use crate::fault::Refusal;
+use crate::junction::both;
 use crate::reader::Reader;
 use ql_grammar::{Role, Terminal};
 use ql_lang::{
@@ -346,11 +347,11 @@ impl Reader<'_> {
         ensures refused { IfErr result (AreEmissionsRefused self.old) }
     {
         let binds = self.bindings(alloc)?;
-        let test = self.closed_value(alloc, Terminal::WhenWord)?;
-        let stmts = self.applied_statements(alloc)?;
+        let emitted = both(binds, self.closed_value(alloc, Terminal::WhenWord))?;
+        let (emitted, stmts) = both(emitted, self.applied_statements(alloc))?;
         Ok(EmitDecl {
-            binds,
-            test: test.expr,
+            binds: emitted.0,
+            test: emitted.1.expr,
             stmts,
         })
     }
@@ -410,11 +411,11 @@ impl Reader<'_> {
     {
         self.take(Terminal::OpenBrace, Role::Plain)?;
         let contract = self.closed_contract(alloc)?;
-        let answer = self.closed_value(alloc, Terminal::AnswerWord)?;
-        let effect = self.ending(alloc)?;
+        let said = both(contract, self.closed_value(alloc, Terminal::AnswerWord))?;
+        let (said, effect) = both(said, self.ending(alloc))?;
         Ok(Body {
-            contract,
-            answer,
+            contract: said.0,
+            answer: said.1,
             effect,
         })
     }

@@ -44,7 +44,7 @@ ghost use Rattle.ql_parse.specs.Readings.{
 };
 
 use crate::fault::Refusal;
-use crate::junction::boxed;
+use crate::junction::{both, boxed};
 use crate::reader::Reader;
 use ql_grammar::{Precedence, Role, Terminal};
 use ql_lang::{BinOp, Expr, ExprNode, Exprs};
@@ -413,7 +413,7 @@ impl Reader<'_> {
             self.old) }
     {
         let op = self.operator(precedence)?;
-        let right = self.operand(alloc, precedence)?;
+        let (left, right) = both(left, self.operand(alloc, precedence))?;
         combination(alloc, left, op, right)
     }
 
@@ -490,8 +490,8 @@ impl Reader<'_> {
         ensures refused { IfErr result (AreRefused branches_symbols self.old) }
     {
         let then = self.branch(alloc, Terminal::ThenWord)?;
-        let other = self.branch(alloc, Terminal::ElseWord)?;
-        Ok((then, other))
+        let other = self.branch(alloc, Terminal::ElseWord);
+        both(then, other)
     }
 
     /// A test and the two expressions between which it chooses.
@@ -506,8 +506,8 @@ impl Reader<'_> {
     {
         let at = self.take(Terminal::IfWord, Role::Makes(1))?;
         let test = self.whole_expression(alloc)?;
-        let (then, other) = self.branches(alloc)?;
-        conditional(alloc, at, test.expr, then.expr, other.expr)
+        let (test, branches) = both(test, self.branches(alloc))?;
+        conditional(alloc, at, test.expr, branches.0.expr, branches.1.expr)
     }
 
     /// A whole expression.

@@ -1,4 +1,4 @@
-ghost use Rattle.std.specs.Prelude.{◌≡◌, IfErr, IfOk};
+ghost use Rattle.std.specs.Prelude.{◌≡◌, Err, IfErr, IfOk, Ok};
 ghost use Rattle.ql_lang.specs.Trees.{proposition_of, relation_of};
 ghost use Rattle.ql_parse.specs.Junctions.{both_props, both_relations, prop_mark, relation_mark};
 
@@ -56,6 +56,18 @@ impl Junction {
             Junction::Or => Rel::Union(left, right),
         }
     }
+}
+
+/// Two parts of a tree, where the second was read too.
+pub(crate) fn both<A: Drop, B: Drop>(
+    first: A,
+    second: Result<B, Refusal>,
+) -> Result<(A, B), Refusal>
+    ensures parts { IfOk result (λ both. (both.0 ≡ first) × (second ≡ Ok both.1)) }
+    ensures refused { IfErr result (λ e. second ≡ Err e) }
+{
+    let second = second?;
+    Ok((first, second))
 }
 
 /// Two operands in boxes.

@@ -2,6 +2,7 @@ ghost use Rattle.std.specs.Prelude.{◌<◌, ◌^◌, length};
 ghost use Rattle.ql_parse.specs.Parsing.{IsContractAnswer, IsProgramAnswer};
 
 use crate::fault::ParseFault;
+use crate::junction::both;
 use crate::reader::Reader;
 use ql_lang::{Contract, Program};
 use ql_lex::tokens;
@@ -15,8 +16,8 @@ pub fn parse_contract(alloc: Global, bytes: &[u8]) -> Result<Contract, ParseFaul
     let found = tokens(alloc, bytes)?;
     let mut reader = Reader::new(bytes, found.as_slice());
     let contract = reader.contract(alloc)?;
-    reader.end()?;
-    Ok(contract)
+    let ended = both(contract, reader.end())?;
+    Ok(ended.0)
 }
 
 /// Reads a whole source from a text of fewer than 2^32 bytes.
@@ -27,6 +28,6 @@ pub fn parse_program(alloc: Global, bytes: &[u8]) -> Result<Program, ParseFault>
     let found = tokens(alloc, bytes)?;
     let mut reader = Reader::new(bytes, found.as_slice());
     let program = reader.program(alloc)?;
-    reader.end()?;
-    Ok(program)
+    let ended = both(program, reader.end())?;
+    Ok(ended.0)
 }

@@ -6,7 +6,7 @@ ghost use Rattle.ql_parse.specs.Junctions.{joined_relations, more_relations, rel
 ghost use Rattle.ql_parse.specs.Readings.{Gave, GaveOneOf, IsOneOfRefused, IsRefused, IsTurnRefused, Turned, relation_ahead};
 
 use crate::fault::Refusal;
-use crate::junction::{Junction, boxed};
+use crate::junction::{Junction, both, boxed};
 use crate::reader::Reader;
 use ql_grammar::{Role, Terminal};
 use ql_lang::{Rel, RelName};
@@ -108,8 +108,8 @@ impl Reader<'_> {
         ensures refused { IfErr result
             (IsTurnRefused (more_relations junction) (ARelation (relation_of left)) self.old) }
     {
-        self.take(junction.relation_mark(), Role::Makes(1))?;
-        let right = self.relation_operand(alloc, junction)?;
+        let left = self.past(left, junction.relation_mark(), Role::Makes(1))?;
+        let (left, right) = both(left, self.relation_operand(alloc, junction))?;
         let (left, right) = boxed(alloc, left, right)?;
         Ok(junction.of_relations(left, right))
     }

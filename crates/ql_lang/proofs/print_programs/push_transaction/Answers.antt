@@ -1,4 +1,4 @@
-use Rattle.std.proofs.Common.{◌++◌, ◌∙◌, ap, codes}
+use Rattle.std.proofs.Common.{◌≡◌, ◌++◌, ◌∙◌, ap, codes}
 use Rattle.std.proofs.lemmas.Result.{on_ok_weaker}
 use Rattle.ql_lang.specs.Trees.{sentence_of}
 use Rattle.ql_lang.specs.Spelling.{contract_text}
@@ -11,11 +11,10 @@ returns c =
     let txn = c.args.txn.now in
     let old = c.args.out.now.items in
     let word = codes "transaction " in
-    let name = word ++ txn.name.word in
-    let opened = name ++ codes " {\n" in
+    let opened = word ++ txn.name.word ++ codes " {\n" in
     let uses = opened ++ uses_text txn.uses in
     let said = uses ++ codes "  contract " in
-    let named = behind old word txn.name.word c.in_ok-push_bytes.ensures.ok (c.in_ok-push_bytes-2.ensures.ok ∙ ap (λ w. c.push_bytes.new.out.items ++ w) c.bytes.ensures.same) in
-    let used = behind old opened (uses_text txn.uses) (behind old name (codes " {\n") named c.in_ok-push_bytes-3.ensures.ok) (c.in_ok-push_uses.ensures ∙ ap (λ ns. c.push_bytes-3.new.out.items ++ uses_text ns) c.items.ensures) in
-    let contract = behind old said (contract_text (sentence_of txn.contract)) (behind old uses (codes "  contract ") used c.in_ok-push_bytes-4.ensures.ok) c.in_ok-push_contract.ensures in
-    on_ok_weaker c.push_bytes-5.result (λ last. behind old (said ++ contract_text (sentence_of txn.contract)) (codes ";\n}\n") contract last) c.push_bytes-5.ensures.ok
+    let first : c.push_all.new.out.items ≡ old ++ opened = c.in_ok-push_all.ensures ∙ ap (λ w. old ++ (word ++ w ++ codes " {\n")) c.bytes.ensures.same in
+    let used = behind old opened (uses_text txn.uses) first (c.in_ok-push_uses.ensures ∙ ap (λ ns. c.push_all.new.out.items ++ uses_text ns) c.items.ensures) in
+    let contract = behind old said (contract_text (sentence_of txn.contract)) (behind old uses (codes "  contract ") used c.in_ok-push_bytes.ensures.ok) c.in_ok-push_contract.ensures in
+    on_ok_weaker c.push_bytes-2.result (λ last. behind old (said ++ contract_text (sentence_of txn.contract)) (codes ";\n}\n") contract last) c.push_bytes-2.ensures.ok

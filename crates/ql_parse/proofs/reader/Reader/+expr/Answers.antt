@@ -116,20 +116,22 @@ combined-returns-in_err-op-clause-refused t c =
     let p = err_from_is_err_and c.from_residual.result c.from_residual.ensures.1 in
     rw (p.1, p.2) (λ f is below vs. goes_on c.args.self.now c.args.precedence below _ c.requires ∙ c.in_err-op.ensures.refused f is _ _)
 
-pub combined-returns-in_err-right-clause-refused : goal.combined-returns-in_err-right-clause-refused
-combined-returns-in_err-right-clause-refused t c =
-    let p = err_from_is_err_and c.from_residual-in_err-right.result c.from_residual-in_err-right.ensures.1 in
-    rw (p.1, p.2) (λ f is below vs. goes_on c.args.self.now c.args.precedence below _ c.requires ∙ c.in_ok-op.ensures.gave _ _ ∙ c.in_err-right.ensures.refused f is _ _)
+pub combined-returns-in_err-left-clause-refused : goal.combined-returns-in_err-left-clause-refused
+combined-returns-in_err-left-clause-refused t c =
+    let p = err_from_is_err_and c.from_residual-in_err-left.result c.from_residual-in_err-left.ensures.1 in
+    rw (p.1, p.2) (λ f is below vs. goes_on c.args.self.now c.args.precedence below _ c.requires ∙ c.in_ok-op.ensures.gave _ _ ∙ (rw c.in_err-left.ensures.refused at c.operand.ensures.refused) f is _ _)
 
 pub combined-returns-clause-gave : goal.combined-returns-clause-gave
 combined-returns-clause-gave t c = if_ok c.combination.result c.combination.ensures.tree (λ o tree below vs.
-    goes_on c.args.self.now c.args.precedence below _ c.requires ∙ c.in_ok-op.ensures.gave _ _ ∙ c.in_ok-right.ensures.gave _ _ ∙ read-do _ _ _ _ ∙ ap (λ v. read c.operand.new.self (after_two c.args.precedence below) (v ∷ vs)) (sym tree))
+    goes_on c.args.self.now c.args.precedence below _ c.requires ∙ c.in_ok-op.ensures.gave _ _ ∙ (rw c.in_ok-left.ensures.parts.1 at c.operand.ensures.gave) _ _ ∙ read-do _ _ _ _ ∙ ap (λ v. read c.operand.new.self (after_two c.args.precedence below) (v ∷ vs)) (sym (rw c.in_ok-left.ensures.parts.0 at tree)))
 
 pub combined-returns-clause-refused : goal.combined-returns-clause-refused
 combined-returns-clause-refused t c = if_err c.combination.result c.combination.ensures.full (λ e full f is below vs. no_fault e f full is)
 
 pub combined-returns-clause-shorter : goal.combined-returns-clause-shorter
-combined-returns-clause-shorter t c = on_ok c.combination.result (omega (arith, c.in_ok-op.ensures.shorter, c.in_ok-right.ensures.shorter))
+combined-returns-clause-shorter t c =
+    let behind = rw c.in_ok-left.ensures.parts.1 at c.operand.ensures.shorter in
+    on_ok c.combination.result (omega (arith, c.in_ok-op.ensures.shorter, behind))
 
 pub branch-returns-in_err-take-clause-refused : goal.branch-returns-in_err-take-clause-refused
 branch-returns-in_err-take-clause-refused t c =
@@ -147,13 +149,16 @@ branches-returns-in_err-then-clause-refused t c =
     let p = err_from_is_err_and c.from_residual.result c.from_residual.ensures.1 in
     rw (p.1, p.2) (λ f is below vs. c.in_err-then.ensures.refused f is _ _)
 
-pub branches-returns-in_err-other-clause-refused : goal.branches-returns-in_err-other-clause-refused
-branches-returns-in_err-other-clause-refused t c =
-    let p = err_from_is_err_and c.from_residual-in_err-other.result c.from_residual-in_err-other.ensures.1 in
-    rw (p.1, p.2) (λ f is below vs. c.in_ok-then.ensures.gave _ _ ∙ c.in_err-other.ensures.refused f is _ _)
+pub branches-returns-clause-refused : goal.branches-returns-clause-refused
+branches-returns-clause-refused t c = if_err c.both.result c.both.ensures.refused (λ e refused f is below vs. c.in_ok-then.ensures.gave _ _ ∙ (rw refused at c.branch-other.ensures.refused) f is _ _)
 
 pub branches-returns-clause-gave : goal.branches-returns-clause-gave
-branches-returns-clause-gave t c = λ below vs. c.in_ok-then.ensures.gave _ _ ∙ c.in_ok-other.ensures.gave _ _
+branches-returns-clause-gave t c = if_ok c.both.result c.both.ensures.parts (λ x parts below vs. rw parts.0 (c.in_ok-then.ensures.gave _ _ ∙ (rw parts.1 at c.branch-other.ensures.gave) _ _))
+
+pub branches-returns-clause-shorter : goal.branches-returns-clause-shorter
+branches-returns-clause-shorter t c = if_ok c.both.result c.both.ensures.parts (λ x parts.
+    let behind = rw parts.1 at c.branch-other.ensures.shorter in
+    omega (arith, c.in_ok-then.ensures.shorter, behind))
 
 pub choice-returns-in_err-at-clause-refused : goal.choice-returns-in_err-at-clause-refused
 choice-returns-in_err-at-clause-refused t c =
@@ -165,20 +170,22 @@ choice-returns-in_err-test-clause-refused t c =
     let p = err_from_is_err_and c.from_residual-in_err-test.result c.from_residual-in_err-test.ensures.1 in
     rw (p.1, p.2) (λ f is below vs. chosen-if c.args.self.now below vs c.requires ∙ c.in_ok-at.ensures.gave _ _ ∙ c.in_err-test.ensures.refused f is _ _)
 
-pub choice-returns-in_err-then-clause-refused : goal.choice-returns-in_err-then-clause-refused
-choice-returns-in_err-then-clause-refused t c =
-    let p = err_from_is_err_and c.from_residual-in_err-then.result c.from_residual-in_err-then.ensures.1 in
-    rw (p.1, p.2) (λ f is below vs. chosen-if c.args.self.now below vs c.requires ∙ c.in_ok-at.ensures.gave _ _ ∙ c.in_ok-test.ensures.gave _ _ ∙ c.in_err-then.ensures.refused f is _ _)
+pub choice-returns-in_err-test-2-clause-refused : goal.choice-returns-in_err-test-2-clause-refused
+choice-returns-in_err-test-2-clause-refused t c =
+    let p = err_from_is_err_and c.from_residual-in_err-test-2.result c.from_residual-in_err-test-2.ensures.1 in
+    rw (p.1, p.2) (λ f is below vs. chosen-if c.args.self.now below vs c.requires ∙ c.in_ok-at.ensures.gave _ _ ∙ c.in_ok-test.ensures.gave _ _ ∙ (rw c.in_err-test-2.ensures.refused at c.branches.ensures.refused) f is _ _)
 
 pub choice-returns-clause-gave : goal.choice-returns-clause-gave
 choice-returns-clause-gave t c = if_ok c.conditional.result c.conditional.ensures.tree (λ o tree below vs.
-    chosen-if c.args.self.now below vs c.requires ∙ c.in_ok-at.ensures.gave _ _ ∙ c.in_ok-test.ensures.gave _ _ ∙ c.in_ok-then.ensures.gave _ _ ∙ read-do _ _ _ _ ∙ ap (λ v. read c.branches.new.self below (v ∷ vs)) (sym tree))
+    chosen-if c.args.self.now below vs c.requires ∙ c.in_ok-at.ensures.gave _ _ ∙ c.in_ok-test.ensures.gave _ _ ∙ (rw c.in_ok-test-2.ensures.parts.1 at c.branches.ensures.gave) _ _ ∙ read-do _ _ _ _ ∙ ap (λ v. read c.branches.new.self below (v ∷ vs)) (sym (rw c.in_ok-test-2.ensures.parts.0 at tree)))
 
 pub choice-returns-clause-refused : goal.choice-returns-clause-refused
 choice-returns-clause-refused t c = if_err c.conditional.result c.conditional.ensures.full (λ e full f is below vs. no_fault e f full is)
 
 pub choice-returns-clause-shorter : goal.choice-returns-clause-shorter
-choice-returns-clause-shorter t c = on_ok c.conditional.result (omega (arith, c.in_ok-at.ensures.shorter, c.in_ok-test.ensures.shorter, c.in_ok-then.ensures.shorter))
+choice-returns-clause-shorter t c =
+    let behind = rw c.in_ok-test-2.ensures.parts.1 at c.branches.ensures.shorter in
+    on_ok c.conditional.result (omega (arith, c.in_ok-at.ensures.shorter, c.in_ok-test.ensures.shorter, behind))
 
 pub more_operands-returns-then-not-sees_operator-clause-gave : goal.more_operands-returns-then-not-sees_operator-clause-gave
 more_operands-returns-then-not-sees_operator-clause-gave t c = λ below vs.

@@ -44,36 +44,36 @@ joined_props-more-init t c = record {
 pub joined_props-returns-clause-gave : goal.joined_props-returns-clause-gave
 joined_props-returns-clause-gave t c = λ below vs. c.more.invariant.so_far below vs ∙ props_past c.more.self c.args.junction _ c.prop_mark-mark.ensures below _ (sym c.sees.ensures ∙ c.more-test.false)
 
-pub more_props-returns-in_err-take-clause-refused : goal.more_props-returns-in_err-take-clause-refused
-more_props-returns-in_err-take-clause-refused t c =
+pub more_props-returns-in_err-left-clause-refused : goal.more_props-returns-in_err-left-clause-refused
+more_props-returns-in_err-left-clause-refused t c =
     let p = err_from_is_err_and c.from_residual.result c.from_residual.ensures.1 in
-    rw (p.1, p.2) (λ f is below vs. props_on c.args.self.now c.args.junction _ c.prop_mark.ensures below _ c.requires ∙ c.in_err-take.ensures.refused f is _ _)
+    rw (p.1, p.2) (λ f is below vs. props_on c.args.self.now c.args.junction _ c.prop_mark.ensures below _ c.requires ∙ c.in_err-left.ensures.refused f is _ _)
 
-pub more_props-returns-in_err-right-clause-refused : goal.more_props-returns-in_err-right-clause-refused
-more_props-returns-in_err-right-clause-refused t c =
-    let p = err_from_is_err_and c.from_residual-in_err-right.result c.from_residual-in_err-right.ensures.1 in
-    rw (p.1, p.2) (λ f is below vs. props_on c.args.self.now c.args.junction _ c.prop_mark.ensures below _ c.requires ∙ c.in_ok-take.ensures.took _ _ ∙ c.in_err-right.ensures.refused f is _ _)
+pub more_props-returns-in_err-left-2-clause-refused : goal.more_props-returns-in_err-left-2-clause-refused
+more_props-returns-in_err-left-2-clause-refused t c =
+    let p = err_from_is_err_and c.from_residual-in_err-left-2.result c.from_residual-in_err-left-2.ensures.1 in
+    rw (p.1, p.2) (λ f is below vs. props_on c.args.self.now c.args.junction _ c.prop_mark.ensures below _ c.requires ∙ c.in_ok-left.ensures.took.1 _ _ ∙ (rw c.in_err-left-2.ensures.refused at c.prop_operand.ensures.refused) f is _ _)
 
 pub more_props-returns-clause-turned : goal.more_props-returns-clause-turned
-more_props-returns-clause-turned t c = λ below vs. rw (c.of_props.ensures, c.in_ok-left.ensures.left, c.in_ok-left.ensures.right) (props_on c.args.self.now c.args.junction _ c.prop_mark.ensures below _ c.requires ∙ c.in_ok-take.ensures.took _ _ ∙ c.in_ok-right.ensures.gave _ _ ∙ read-do _ _ _ _)
+more_props-returns-clause-turned t c = λ below vs. rw (c.of_props.ensures, c.in_ok-left-3.ensures.left, c.in_ok-left-3.ensures.right, c.in_ok-left-2.ensures.parts.0, c.in_ok-left.ensures.took.0) (props_on c.args.self.now c.args.junction _ c.prop_mark.ensures below _ c.requires ∙ c.in_ok-left.ensures.took.1 _ _ ∙ (rw c.in_ok-left-2.ensures.parts.1 at c.prop_operand.ensures.gave) _ _ ∙ read-do _ _ _ _)
 
 pub prop-returns-in_err-left-clause-refused : goal.prop-returns-in_err-left-clause-refused
 prop-returns-in_err-left-clause-refused t c =
     let p = err_from_is_err_and c.from_residual.result c.from_residual.ensures.1 in
     rw (p.1, p.2) (λ f is below vs. read-as c.args.self.now (PropAt Whole) (PropAt Either) below (Then MoreImplied ∷ below) vs refl ∙ c.in_err-left.ensures.refused f is _ _)
 
-pub prop-returns-in_err-take-clause-refused : goal.prop-returns-in_err-take-clause-refused
-prop-returns-in_err-take-clause-refused t c =
-    let p = err_from_is_err_and c.from_residual-in_err-take.result c.from_residual-in_err-take.ensures.1 in
-    rw (p.1, p.2) (λ f is below vs. read-as c.args.self.now (PropAt Whole) (PropAt Either) below (Then MoreImplied ∷ below) vs refl ∙ c.in_ok-left.ensures.gave _ _ ∙ then-on c.joined_props.new.self MoreImplied below _ (sym c.sees.ensures ∙ c.if-not-sees.false) ∙ c.in_err-take.ensures.refused f is _ _)
+pub prop-returns-in_err-left-2-clause-refused : goal.prop-returns-in_err-left-2-clause-refused
+prop-returns-in_err-left-2-clause-refused t c =
+    let p = err_from_is_err_and c.from_residual-in_err-left-2.result c.from_residual-in_err-left-2.ensures.1 in
+    rw (p.1, p.2) (λ f is below vs. read-as c.args.self.now (PropAt Whole) (PropAt Either) below (Then MoreImplied ∷ below) vs refl ∙ c.in_ok-left.ensures.gave _ _ ∙ then-on c.joined_props.new.self MoreImplied below _ (sym c.sees.ensures ∙ c.if-not-sees.false) ∙ c.in_err-left-2.ensures.refused f is _ _)
 
-pub prop-returns-in_err-right-clause-refused : goal.prop-returns-in_err-right-clause-refused
-prop-returns-in_err-right-clause-refused t c =
-    let p = err_from_is_err_and c.from_residual-in_err-right.result c.from_residual-in_err-right.ensures.1 in
-    rw (p.1, p.2) (λ f is below vs. read-as c.args.self.now (PropAt Whole) (PropAt Either) below (Then MoreImplied ∷ below) vs refl ∙ c.in_ok-left.ensures.gave _ _ ∙ then-on c.joined_props.new.self MoreImplied below _ (sym c.sees.ensures ∙ c.if-not-sees.false) ∙ c.in_ok-take.ensures.took _ _ ∙ c.in_err-right.ensures.refused f is _ _)
+pub prop-returns-in_err-left-3-clause-refused : goal.prop-returns-in_err-left-3-clause-refused
+prop-returns-in_err-left-3-clause-refused t c =
+    let p = err_from_is_err_and c.from_residual-in_err-left-3.result c.from_residual-in_err-left-3.ensures.1 in
+    rw (p.1, p.2) (λ f is below vs. read-as c.args.self.now (PropAt Whole) (PropAt Either) below (Then MoreImplied ∷ below) vs refl ∙ c.in_ok-left.ensures.gave _ _ ∙ then-on c.joined_props.new.self MoreImplied below _ (sym c.sees.ensures ∙ c.if-not-sees.false) ∙ c.in_ok-left-2.ensures.took.1 _ _ ∙ (rw c.in_err-left-3.ensures.refused at c.prop.ensures.refused) f is _ _)
 
 pub prop-returns-clause-gave : goal.prop-returns-clause-gave
-prop-returns-clause-gave t c = λ below vs. rw (c.in_ok-left-2.ensures.left, c.in_ok-left-2.ensures.right) (read-as c.args.self.now (PropAt Whole) (PropAt Either) below (Then MoreImplied ∷ below) vs refl ∙ c.in_ok-left.ensures.gave _ _ ∙ then-on c.joined_props.new.self MoreImplied below _ (sym c.sees.ensures ∙ c.if-not-sees.false) ∙ c.in_ok-take.ensures.took _ _ ∙ c.in_ok-right.ensures.gave _ _ ∙ read-do _ _ _ _)
+prop-returns-clause-gave t c = λ below vs. rw (c.in_ok-left-4.ensures.left, c.in_ok-left-4.ensures.right, c.in_ok-left-3.ensures.parts.0, c.in_ok-left-2.ensures.took.0) (read-as c.args.self.now (PropAt Whole) (PropAt Either) below (Then MoreImplied ∷ below) vs refl ∙ c.in_ok-left.ensures.gave _ _ ∙ then-on c.joined_props.new.self MoreImplied below _ (sym c.sees.ensures ∙ c.if-not-sees.false) ∙ c.in_ok-left-2.ensures.took.1 _ _ ∙ (rw c.in_ok-left-3.ensures.parts.1 at c.prop.ensures.gave) _ _ ∙ read-do _ _ _ _)
 
 pub prop-returns-then-not-sees-clause-gave : goal.prop-returns-then-not-sees-clause-gave
 prop-returns-then-not-sees-clause-gave t c = λ below vs. read-as c.args.self.now (PropAt Whole) (PropAt Either) below (Then MoreImplied ∷ below) vs refl ∙ c.in_ok-left.ensures.gave _ _ ∙ then-past c.joined_props.new.self MoreImplied below _ (sym c.sees.ensures ∙ c.if-not-sees.true)

@@ -46,18 +46,18 @@ joined_relations-more-init t c = record {
 pub joined_relations-returns-clause-gave : goal.joined_relations-returns-clause-gave
 joined_relations-returns-clause-gave t c = λ below vs. c.more.invariant.so_far below vs ∙ relations_past c.more.self c.args.junction _ c.relation_mark-mark.ensures below _ (sym c.sees.ensures ∙ c.more-test.false)
 
-pub more_relations-returns-in_err-take-clause-refused : goal.more_relations-returns-in_err-take-clause-refused
-more_relations-returns-in_err-take-clause-refused t c =
+pub more_relations-returns-in_err-left-clause-refused : goal.more_relations-returns-in_err-left-clause-refused
+more_relations-returns-in_err-left-clause-refused t c =
     let p = err_from_is_err_and c.from_residual.result c.from_residual.ensures.1 in
-    rw (p.1, p.2) (λ f is below vs. relations_on c.args.self.now c.args.junction _ c.relation_mark.ensures below _ c.requires ∙ c.in_err-take.ensures.refused f is _ _)
+    rw (p.1, p.2) (λ f is below vs. relations_on c.args.self.now c.args.junction _ c.relation_mark.ensures below _ c.requires ∙ c.in_err-left.ensures.refused f is _ _)
 
-pub more_relations-returns-in_err-right-clause-refused : goal.more_relations-returns-in_err-right-clause-refused
-more_relations-returns-in_err-right-clause-refused t c =
-    let p = err_from_is_err_and c.from_residual-in_err-right.result c.from_residual-in_err-right.ensures.1 in
-    rw (p.1, p.2) (λ f is below vs. relations_on c.args.self.now c.args.junction _ c.relation_mark.ensures below _ c.requires ∙ c.in_ok-take.ensures.took _ _ ∙ c.in_err-right.ensures.refused f is _ _)
+pub more_relations-returns-in_err-left-2-clause-refused : goal.more_relations-returns-in_err-left-2-clause-refused
+more_relations-returns-in_err-left-2-clause-refused t c =
+    let p = err_from_is_err_and c.from_residual-in_err-left-2.result c.from_residual-in_err-left-2.ensures.1 in
+    rw (p.1, p.2) (λ f is below vs. relations_on c.args.self.now c.args.junction _ c.relation_mark.ensures below _ c.requires ∙ c.in_ok-left.ensures.took.1 _ _ ∙ (rw c.in_err-left-2.ensures.refused at c.relation_operand.ensures.refused) f is _ _)
 
 pub more_relations-returns-clause-turned : goal.more_relations-returns-clause-turned
-more_relations-returns-clause-turned t c = λ below vs. rw (c.of_relations.ensures, c.in_ok-left.ensures.left, c.in_ok-left.ensures.right) (relations_on c.args.self.now c.args.junction _ c.relation_mark.ensures below _ c.requires ∙ c.in_ok-take.ensures.took _ _ ∙ c.in_ok-right.ensures.gave _ _ ∙ read-do _ _ _ _)
+more_relations-returns-clause-turned t c = λ below vs. rw (c.of_relations.ensures, c.in_ok-left-3.ensures.left, c.in_ok-left-3.ensures.right, c.in_ok-left-2.ensures.parts.0, c.in_ok-left.ensures.took.0) (relations_on c.args.self.now c.args.junction _ c.relation_mark.ensures below _ c.requires ∙ c.in_ok-left.ensures.took.1 _ _ ∙ (rw c.in_ok-left-2.ensures.parts.1 at c.relation_operand.ensures.gave) _ _ ∙ read-do _ _ _ _)
 
 pub relation_operand-returns-in-And-clause-gave : goal.relation_operand-returns-in-And-clause-gave
 relation_operand-returns-in-And-clause-gave t c = rw c.in-And.is (if_ok c.single.result c.single.ensures.gave (λ x gave below vs. read-part c.args.self.now (RelationAt Single) below vs ∙ gave below vs))

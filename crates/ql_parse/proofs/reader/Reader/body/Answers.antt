@@ -1,4 +1,4 @@
-use Rattle.std.proofs.Common.{◌∙◌}
+use Rattle.std.proofs.Common.{◌∙◌, arith}
 use Rattle.std.proofs.lemmas.Result.{err_from_is_err_and}
 use Rattle.ql_parse.proofs.reader.Reader.body.Goals as goal
 
@@ -12,15 +12,21 @@ returns-in_err-contract-clause-refused c =
     let p = err_from_is_err_and c.from_residual-in_err-contract.result c.from_residual-in_err-contract.ensures.1 in
     rw (p.1, p.2) (λ f is below vs. c.in_ok-take.ensures.took _ _ ∙ c.in_err-contract.ensures.refused f is _ _)
 
-pub returns-in_err-answer-clause-refused : goal.returns-in_err-answer-clause-refused
-returns-in_err-answer-clause-refused c =
-    let p = err_from_is_err_and c.from_residual-in_err-answer.result c.from_residual-in_err-answer.ensures.1 in
-    rw (p.1, p.2) (λ f is below vs. c.in_ok-take.ensures.took _ _ ∙ c.in_ok-contract.ensures.gave _ _ ∙ c.in_err-answer.ensures.refused f is _ _)
+pub returns-in_err-said-clause-refused : goal.returns-in_err-said-clause-refused
+returns-in_err-said-clause-refused c =
+    let p = err_from_is_err_and c.from_residual-in_err-said.result c.from_residual-in_err-said.ensures.1 in
+    rw (p.1, p.2) (λ f is below vs. c.in_ok-take.ensures.took _ _ ∙ c.in_ok-contract.ensures.gave _ _ ∙ (rw c.in_err-said.ensures.refused at c.closed_value.ensures.refused) f is _ _)
 
-pub returns-in_err-effect-clause-refused : goal.returns-in_err-effect-clause-refused
-returns-in_err-effect-clause-refused c =
-    let p = err_from_is_err_and c.from_residual-in_err-effect.result c.from_residual-in_err-effect.ensures.1 in
-    rw (p.1, p.2) (λ f is below vs. c.in_ok-take.ensures.took _ _ ∙ c.in_ok-contract.ensures.gave _ _ ∙ c.in_ok-answer.ensures.gave _ _ ∙ c.in_err-effect.ensures.refused f is _ _)
+pub returns-in_err-said-2-clause-refused : goal.returns-in_err-said-2-clause-refused
+returns-in_err-said-2-clause-refused c =
+    let p = err_from_is_err_and c.from_residual-in_err-said-2.result c.from_residual-in_err-said-2.ensures.1 in
+    rw (p.1, p.2) (λ f is below vs. c.in_ok-take.ensures.took _ _ ∙ c.in_ok-contract.ensures.gave _ _ ∙ (rw c.in_ok-said.ensures.parts.1 at c.closed_value.ensures.gave) _ _ ∙ (rw c.in_err-said-2.ensures.refused at c.ending.ensures.refused) f is _ _)
 
 pub returns-clause-gave : goal.returns-clause-gave
-returns-clause-gave c = λ below vs. c.in_ok-take.ensures.took _ _ ∙ c.in_ok-contract.ensures.gave _ _ ∙ c.in_ok-answer.ensures.gave _ _ ∙ c.in_ok-effect.ensures.gave _ _
+returns-clause-gave c = λ below vs. rw (c.in_ok-said-2.ensures.parts.0, c.in_ok-said.ensures.parts.0) (c.in_ok-take.ensures.took _ _ ∙ c.in_ok-contract.ensures.gave _ _ ∙ (rw c.in_ok-said.ensures.parts.1 at c.closed_value.ensures.gave) _ _ ∙ (rw c.in_ok-said-2.ensures.parts.1 at c.ending.ensures.gave) _ _)
+
+pub returns-clause-shorter : goal.returns-clause-shorter
+returns-clause-shorter c =
+    let answer = rw c.in_ok-said.ensures.parts.1 at c.closed_value.ensures.shorter in
+    let effect = rw c.in_ok-said-2.ensures.parts.1 at c.ending.ensures.shorter in
+    omega (arith, c.in_ok-take.ensures.shorter, c.in_ok-contract.ensures.shorter, answer, effect)
