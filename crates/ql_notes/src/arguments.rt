@@ -1,11 +1,10 @@
 // The arguments of a call in a schedule, and what its operation takes.
 
-use crate::columns::FaultyLine;
-use crate::declared::{parameters, place_in, type_at, word_after};
-use crate::fields::{CALL_ARGUMENT, CALL_OBJECT, CALL_OPERATION, field_text};
-use crate::pieces::{piece, piece_before};
+use crate::fields::{CALL_ARGUMENT, CALL_OBJECT, CALL_OPERATION, FaultyLine};
+use crate::pieces::{next_of, piece, piece_before, place_of_name, type_at};
 use crate::text::Text;
 use crate::words::{has_word, is, sentence_of};
+use ql_base::number_of;
 
 /// The index of the field where a call's operation or its arguments don't fit.
 pub(crate) fn misfit(line: &FaultyLine) -> usize {
@@ -20,7 +19,7 @@ fn misfit_argument(line: &FaultyLine, op: usize) -> usize {
     let fitting = count(line.source, op).min(given(line));
     for k in 0..fitting {
         let argument = CALL_ARGUMENT.saturating_add(k);
-        if kind_of(field_text(line.fields, argument)) != base(line.source, op, k) {
+        if kind_of(line.field(argument)) != base(line.source, op, k) {
             return argument;
         }
     }
@@ -32,19 +31,20 @@ fn given(line: &FaultyLine) -> usize {
     line.fields.len().saturating_sub(CALL_ARGUMENT)
 }
 
-// The token that declares the operation of a call, if that is one of the object's type.
+// The name in the declaration of a call's operation, if that is one of the object's type.
 fn own_operation(line: &FaultyLine) -> Option<usize> {
-    let op = place_in(line.source, b"op", field_text(line.fields, CALL_OPERATION))?;
-    if type_at(line.source, op) == type_of_object(line) {
+    let op = place_of_name(line.source, b"op", line.field(CALL_OPERATION))?;
+    if type_at(line.source, op) == line.type_of_object() {
         Some(op)
     } else {
         None
     }
 }
 
-// The type of a call's object.
-fn type_of_object<'a>(line: &FaultyLine<'a>) -> &'a [u8] {
-    word_after(line.above, b"object", field_text(line.fields, CALL_OBJECT))
+// The parameters of the operation with its name at a token, from bracket to bracket.
+fn parameters(source: &[&[u8]], op: usize) -> (usize, usize) {
+    let from = op.saturating_add(1);
+    (from, next_of(source, from, b")").unwrap_or(from))
 }
 
 // How many parameters an operation has: each takes four tokens, a name, a colon, a kind, and a comma or a bracket.
@@ -55,10 +55,9 @@ fn count(source: &[&[u8]], op: usize) -> usize {
 
 // The kind of a parameter.
 fn base<'a>(source: &[&'a [u8]], op: usize, k: usize) -> &'a [u8] {
-    let from = parameters(source, op).0;
     piece(
         source,
-        from.saturating_add(k.saturating_mul(4)).saturating_add(3),
+        op.saturating_add(k.saturating_mul(4)).saturating_add(4),
     )
 }
 
@@ -73,28 +72,47 @@ fn kind_of(argument: &[u8]) -> &'static [u8] {
     }
 }
 
+/// Whether an argument is a number that doesn't fit in 64 bits.
+pub(crate) fn is_too_great(argument: &[u8]) -> bool {
+    let (digits, most) = match argument.strip_prefix(b"-") {
+        Some(digits) => (digits, 9_223_372_036_854_775_808),
+        None => (argument, 9_223_372_036_854_775_807),
+    };
+    match digits.first() {
+        Some(b'0'..=b'9') => number_of(digits, most).is_none(),
+        _ => false,
+    }
+}
+
 /// Appends why a call doesn't fit at a field.
 pub(crate) fn push_misfit(said: &mut Text, line: &FaultyLine, k: usize) {
     let Some(op) = own_operation(line) else {
-        return push_other_type(said, line);
+        return said.push_filled(
+            b"`%` has type `%`, which has no operation `%`",
+            &[
+                line.field(CALL_OBJECT),
+                line.type_of_object(),
+                line.field(CALL_OPERATION),
+            ],
+        );
     };
     let (taken, given) = (count(line.source, op), given(line));
     if taken == given {
         push_other_kind(said, line, k, op)
     } else {
-        push_counts(said, field_text(line.fields, CALL_OPERATION), taken, given)
+        push_counts(said, line.field(CALL_OPERATION), taken, given)
     }
 }
 
 // Appends which kind an argument of a call has, and which one its operation takes.
 fn push_other_kind(said: &mut Text, line: &FaultyLine, k: usize, op: usize) {
     let number = k.saturating_sub(CALL_ARGUMENT);
-    let found = with_article(kind_of(field_text(line.fields, k)));
+    let found = with_article(kind_of(line.field(k)));
     let expected = with_article(base(line.source, op, number));
     said.push_filled(b"found %, expected %: ", &[found, expected]);
     said.push_counted(
         b"this is argument # of `%`",
-        &[field_text(line.fields, CALL_OPERATION)],
+        &[line.field(CALL_OPERATION)],
         &[number.saturating_add(1) as u64],
     );
 }
@@ -119,32 +137,14 @@ pub(crate) fn push_counts(said: &mut Text, operation: &[u8], taken: usize, given
     said.push_counted(sentence, &[operation], &[taken as u64, given as u64]);
 }
 
-fn push_other_type(said: &mut Text, line: &FaultyLine) {
-    let object = field_text(line.fields, CALL_OBJECT);
-    let operation = field_text(line.fields, CALL_OPERATION);
-    let own = type_of_object(line);
-    match place_in(line.source, b"op", operation) {
-        Some(op) => said.push_filled(
-            b"`%` has type `%`, but `%` is an operation of `%`",
-            &[object, own, operation, type_at(line.source, op)],
-        ),
-        None => said.push_filled(
-            b"`%` has type `%`, but no type has an operation `%`",
-            &[object, own, operation],
-        ),
-    }
-}
-
 /// Appends what the operation of a call takes.
 pub(crate) fn push_operation(note: &mut Text, line: &FaultyLine) {
-    let name = field_text(line.fields, CALL_OPERATION);
-    let Some(op) = place_in(line.source, b"op", name) else {
+    let name = line.field(CALL_OPERATION);
+    let Some(op) = place_of_name(line.source, b"op", name) else {
         return;
     };
-    note.push_filled(
-        b"  `%` is an operation of `%` and takes `",
-        &[name, type_at(line.source, op)],
-    );
+    let owner = type_at(line.source, op);
+    note.push_filled(b"  `%` is an operation of `%` and takes `", &[name, owner]);
     push_parameters(note, line.source, op);
     note.push(b")`\n");
 }
@@ -154,7 +154,7 @@ fn push_parameters(note: &mut Text, source: &[&[u8]], op: usize) {
     let (from, to) = parameters(source, op);
     for k in from..to {
         let token = piece(source, k);
-        let is_close = k == from || has_word(b", :", token) || is(piece_before(source, k), b"(");
+        let is_close = has_word(b"( , :", token) || is(piece_before(source, k), b"(");
         let space: &[u8] = if is_close { b"" } else { b" " };
         note.push_filled(b"%%", &[space, token]);
     }

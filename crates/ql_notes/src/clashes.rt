@@ -5,139 +5,116 @@ use crate::kinds::{Others, Scope, argument_kind, kind_named, kind_of, kind_of_in
 use ql_lang::{BinOp, EmitDecl, Expr, ExprNode, Field, Kind, OpDecl, Program, TypeDecl};
 use ql_typing::{Function, find_function, is_basic, kind_of_base};
 
-/// A unary or binary operator.
+/// The kinds that are allowed.
 #[derive(Clone, Copy)]
-pub(crate) enum Operator {
-    Not,
-    Minus,
-    Two(BinOp),
-}
-
-/// What requires a kind of an expression, and which one.
-#[derive(Clone, Copy)]
-pub(crate) enum Requirement {
-    /// An operation, of its answer.
-    Answer(Kind),
-    /// A field, of its initial value.
-    Initial(Kind),
-    /// A field, of what is assigned to it.
-    Assigned(Kind),
-    /// An emitted value.
-    Emitted(Kind),
-    /// `when` requires a Boolean.
-    When,
-    /// The condition of `if`, a Boolean.
-    Condition,
-    /// `else` requires the kind of `then`.
-    Branch(Kind),
-    /// An operator, of an operand.
-    Operand(Operator, Kind),
-    /// `==` and `!=` require a base kind.
-    Comparable(Operator),
-    /// `==` and `!=` require the kind of the left operand.
-    SameAsLeft(Operator, Kind),
-    /// A function requires a set or a map as its first argument.
+pub(crate) enum Allowed {
+    Only(Kind),
+    /// The base kinds.
+    Basic,
+    /// Those of a function's first argument.
     First(Function),
-    /// A function, of its argument at an index.
-    Argument(Function, usize, Kind),
-    /// A function takes another number of arguments than this.
-    Count(Function, usize),
-    /// Nothing is required.
     Any,
 }
 
-/// An expression that doesn't have the required kind. `found` is `None` for `empty`, and for a wrong number of
-/// arguments.
+impl Allowed {
+    fn has(self, kind: Kind) -> bool {
+        match self {
+            Allowed::Only(wanted) => wanted == kind,
+            Allowed::Basic => is_basic(kind),
+            Allowed::First(function) => function.signature(kind).is_some(),
+            Allowed::Any => true,
+        }
+    }
+}
+
+/// Which kinds something requires of an expression.
 #[derive(Clone, Copy)]
-pub(crate) struct Clash {
-    pub(crate) found: Option<Kind>,
-    pub(crate) requirement: Requirement,
-    /// Whether the expression is a name.
-    pub(crate) is_name: bool,
+pub(crate) struct Requirement<'a> {
+    pub(crate) allowed: Allowed,
+    /// A sentence with `%` for the owner. After a space at its end the kind follows.
+    pub(crate) reason: &'static [u8],
+    /// The name of a declaration or a function, or an operator.
+    pub(crate) owner: &'a [u8],
 }
 
-impl Requirement {
-    /// The required kind, if there is exactly one.
-    pub(crate) fn kind(self) -> Option<Kind> {
-        match self {
-            Requirement::Answer(kind)
-            | Requirement::Initial(kind)
-            | Requirement::Assigned(kind)
-            | Requirement::Emitted(kind)
-            | Requirement::Branch(kind)
-            | Requirement::Operand(_, kind)
-            | Requirement::SameAsLeft(_, kind)
-            | Requirement::Argument(_, _, kind) => Some(kind),
-            Requirement::When | Requirement::Condition => Some(Kind::Bool),
-            Requirement::Comparable(_)
-            | Requirement::First(_)
-            | Requirement::Count(_, _)
-            | Requirement::Any => None,
-        }
-    }
+const ANY: Requirement<'static> = Requirement {
+    allowed: Allowed::Any,
+    reason: b"",
+    owner: b"",
+};
 
-    fn is_met(self, kind: Kind) -> bool {
-        match self {
-            Requirement::Comparable(_) => is_basic(kind),
-            Requirement::First(function) => function.signature(kind).is_some(),
-            Requirement::Count(_, _) => false,
-            _ => {
-                match self.kind() {
-                    Some(wanted) => wanted == kind,
-                    None => true,
-                }
-            }
-        }
+fn only<'a>(kind: Kind, reason: &'static [u8], owner: &'a [u8]) -> Requirement<'a> {
+    Requirement {
+        allowed: Allowed::Only(kind),
+        reason,
+        owner,
     }
 }
+
+/// What is wrong with an expression.
+#[derive(Clone, Copy)]
+pub(crate) enum Clash<'a> {
+    /// It doesn't have a required kind. `found` is `None` for `empty`.
+    Kind {
+        found: Option<Kind>,
+        requirement: Requirement<'a>,
+        /// Whether the expression is a name.
+        is_name: bool,
+    },
+    /// A function, and how many arguments it is given.
+    Count(Function, &'a [u8], usize),
+}
+
+/// What an operator or a function takes; the kinds follow.
+pub(crate) const TAKES: &[u8] = b"`%` takes ";
 
 // What is searched for a clash: the names in scope, and the offset of the expression.
 #[derive(Clone, Copy)]
 struct Search<'a> {
     scope: &'a Scope<'a>,
-    at: u32,
+    at: usize,
 }
 
 // The clash in an expression of which a kind is required.
 #[cycle(clash)]
-fn clash_of(search: Search, e: &Expr, requirement: Requirement) -> Option<Clash> {
-    let inner = clash_inside(search, e.at, &e.node);
-    if inner.is_some() || e.at != search.at {
+fn clash_of<'a>(search: Search, e: &'a Expr, requirement: Requirement<'a>) -> Option<Clash<'a>> {
+    let at = e.at as usize;
+    let inner = clash_inside(search, at, &e.node);
+    if inner.is_some() || at != search.at {
         return inner;
     }
-    own_clash(search, &e.node, requirement)
-}
-
-// The clash of a whole expression that begins at the offset.
-fn own_clash(search: Search, node: &ExprNode, requirement: Requirement) -> Option<Clash> {
-    let found = kind_of(search.scope, node)?;
-    if requirement.is_met(found) {
+    let found = kind_of(search.scope, &e.node)?;
+    if requirement.allowed.has(found) {
         return None;
     }
-    Some(Clash {
+    Some(Clash::Kind {
         found: Some(found),
         requirement,
-        is_name: matches!(node, ExprNode::Var(_)),
+        is_name: matches!(&e.node, ExprNode::Var(_)),
     })
 }
 
 // The clash in the parts of an expression that begins at an offset.
 #[cycle(clash)]
-fn clash_inside(search: Search, at: u32, node: &ExprNode) -> Option<Clash> {
+fn clash_inside<'a>(search: Search, at: usize, node: &'a ExprNode) -> Option<Clash<'a>> {
     match node {
         ExprNode::Call(name, arguments) => {
             let function = find_function(name.word.bytes())?;
             let arguments = arguments.items();
             if at == search.at && arguments.len() != function.arity() {
-                return Some(count_clash(function, arguments.len()));
+                return Some(Clash::Count(function, name.word.bytes(), arguments.len()));
             }
-            clash_in_arguments(search, function, arguments)
+            clash_in_arguments(search, function, name.word.bytes(), arguments)
         }
         ExprNode::If(test, left, right) => {
             let branch = kind_of(search.scope, &left.node);
-            clash_of(search, test, Requirement::Condition)
-                .or(clash_of(search, left, Requirement::Any))
-                .or(clash_of(search, right, branch_requirement(branch)))
+            clash_of(
+                search,
+                test,
+                only(Kind::Bool, b"the condition of `if` is a bool", b""),
+            )
+            .or(clash_of(search, left, ANY))
+            .or(clash_of(search, right, branch_requirement(branch)))
         }
         ExprNode::Binary(op, left, right) => {
             let kind = kind_of(search.scope, &left.node);
@@ -147,79 +124,91 @@ fn clash_inside(search: Search, at: u32, node: &ExprNode) -> Option<Clash> {
                 right_requirement(*op, kind),
             ))
         }
-        ExprNode::Not(operand) => clash_of(
-            search,
-            operand,
-            Requirement::Operand(Operator::Not, Kind::Bool),
-        ),
-        ExprNode::Neg(operand) => clash_of(
-            search,
-            operand,
-            Requirement::Operand(Operator::Minus, Kind::Int),
-        ),
+        ExprNode::Not(operand) => clash_of(search, operand, only(Kind::Bool, TAKES, b"not")),
+        ExprNode::Neg(operand) => clash_of(search, operand, only(Kind::Int, TAKES, b"-")),
         _ => None,
     }
 }
 
-// The clash in the arguments of a function.
+// The clash in the arguments of a function with a name.
 #[cycle(clash)]
-fn clash_in_arguments(search: Search, function: Function, arguments: &[Expr]) -> Option<Clash> {
+fn clash_in_arguments<'a>(
+    search: Search,
+    function: Function,
+    name: &'a [u8],
+    arguments: &'a [Expr],
+) -> Option<Clash<'a>> {
     let (first, others) = arguments.split_first()?;
     let kind = kind_of(search.scope, &first.node);
-    let mut clash = clash_of(search, first, Requirement::First(function));
+    let of_first = Requirement {
+        allowed: Allowed::First(function),
+        reason: TAKES,
+        owner: name,
+    };
+    let mut clash = clash_of(search, first, of_first);
     let mut number = 1usize;
     for argument in others {
-        let requirement = argument_requirement(function, kind, number);
+        let requirement = match kind.and_then(|kind| argument_kind(function, kind, number)) {
+            Some(wanted) => only(wanted, TAKES, name),
+            None => ANY,
+        };
         clash = clash.or(clash_of(search, argument, requirement));
         number = number.saturating_add(1);
     }
     clash
 }
 
-fn count_clash(function: Function, count: usize) -> Clash {
-    Clash {
-        found: None,
-        requirement: Requirement::Count(function, count),
-        is_name: false,
-    }
-}
-
-fn branch_requirement(left: Option<Kind>) -> Requirement {
+fn branch_requirement(left: Option<Kind>) -> Requirement<'static> {
     match left {
-        Some(kind) => Requirement::Branch(kind),
-        None => Requirement::Any,
-    }
-}
-
-fn argument_requirement(function: Function, first: Option<Kind>, number: usize) -> Requirement {
-    match first.and_then(|first| argument_kind(function, first, number)) {
-        Some(kind) => Requirement::Argument(function, number, kind),
-        None => Requirement::Any,
+        Some(kind) => only(kind, b"`then` and `else` must have the same kind", b""),
+        None => ANY,
     }
 }
 
 // What an operator requires of its left operand.
-fn left_requirement(op: BinOp) -> Requirement {
-    let operator = Operator::Two(op);
+fn left_requirement(op: BinOp) -> Requirement<'static> {
     match op {
-        BinOp::Eq | BinOp::Ne => Requirement::Comparable(operator),
-        BinOp::Or | BinOp::And => Requirement::Operand(operator, Kind::Bool),
-        _ => Requirement::Operand(operator, Kind::Int),
+        BinOp::Eq | BinOp::Ne => Requirement {
+            allowed: Allowed::Basic,
+            reason: b"`%` compares only values of these kinds",
+            owner: spelling_of(op),
+        },
+        BinOp::Or | BinOp::And => only(Kind::Bool, TAKES, spelling_of(op)),
+        _ => only(Kind::Int, TAKES, spelling_of(op)),
     }
 }
 
 // What an operator requires of its right operand, by the kind of the left one.
-fn right_requirement(op: BinOp, left: Option<Kind>) -> Requirement {
-    match (left_requirement(op), left) {
-        (Requirement::Comparable(operator), Some(kind)) if is_basic(kind) =>
-            Requirement::SameAsLeft(operator, kind),
-        (Requirement::Comparable(_), _) => Requirement::Any,
-        (requirement, _) => requirement,
+fn right_requirement(op: BinOp, left: Option<Kind>) -> Requirement<'static> {
+    match (op, left) {
+        (BinOp::Eq | BinOp::Ne, Some(kind)) if is_basic(kind) => only(
+            kind,
+            b"both sides of `%` must have the same kind",
+            spelling_of(op),
+        ),
+        (BinOp::Eq | BinOp::Ne, _) => ANY,
+        _ => left_requirement(op),
+    }
+}
+
+fn spelling_of(op: BinOp) -> &'static [u8] {
+    match op {
+        BinOp::Or => b"or",
+        BinOp::And => b"and",
+        BinOp::Eq => b"==",
+        BinOp::Ne => b"!=",
+        BinOp::Lt => b"<",
+        BinOp::Le => b"<=",
+        BinOp::Gt => b">",
+        BinOp::Ge => b">=",
+        BinOp::Add => b"+",
+        BinOp::Sub => b"-",
+        BinOp::Mul => b"*",
     }
 }
 
 /// The clash at an offset of a source.
-pub(crate) fn clash_at(program: &Program, at: u32) -> Option<Clash> {
+pub(crate) fn clash_at(program: &Program, at: usize) -> Option<Clash> {
     for declared in program.types.items() {
         let clash = clash_in_type(declared, at);
         if clash.is_some() {
@@ -229,10 +218,10 @@ pub(crate) fn clash_at(program: &Program, at: u32) -> Option<Clash> {
     None
 }
 
-fn clash_in_type(declared: &TypeDecl, at: u32) -> Option<Clash> {
+fn clash_in_type(declared: &TypeDecl, at: usize) -> Option<Clash> {
     let fields = declared.fields.items();
     for field in fields {
-        if field.init.at == at {
+        if field.init.at as usize == at {
             return Some(initial_clash(field));
         }
     }
@@ -246,30 +235,37 @@ fn clash_in_type(declared: &TypeDecl, at: u32) -> Option<Clash> {
 }
 
 fn initial_clash(field: &Field) -> Clash {
-    Clash {
+    let reason = match field.kind {
+        Kind::Set(_) | Kind::Map(_, _) =>
+            b"the field `%` is a set or a map, which begins as `empty`".as_slice(),
+        _ => b"the field `%` is ".as_slice(),
+    };
+    Clash::Kind {
         found: kind_of_init(&field.init),
-        requirement: Requirement::Initial(field.kind),
+        requirement: only(field.kind, reason, field.name.word.bytes()),
         is_name: false,
     }
 }
 
-fn clash_in_operation(fields: &[Field], op: &OpDecl, at: u32) -> Option<Clash> {
+fn clash_in_operation<'a>(fields: &'a [Field], op: &'a OpDecl, at: usize) -> Option<Clash<'a>> {
     let scope = Scope {
         fields,
         others: Others::Parameters(op.params.items()),
     };
     let search = Search { scope: &scope, at };
-    let clash = clash_of(search, &op.answer, Requirement::Answer(op.kind));
+    let answer = only(op.kind, b"the answer of `%` is ", op.name.word.bytes());
+    let clash = clash_of(search, &op.answer, answer);
     match &op.effect {
         Some(effect) if clash.is_none() => clash_in_effect(search, effect),
         _ => clash,
     }
 }
 
-fn clash_in_effect(search: Search, effect: &EmitDecl) -> Option<Clash> {
+fn clash_in_effect<'a>(search: Search, effect: &'a EmitDecl) -> Option<Clash<'a>> {
     for bind in effect.binds.items() {
         let kind = kind_of_base(bind.base);
-        let clash = clash_of(search, &bind.value, Requirement::Emitted(kind));
+        let emitted = only(kind, b"the emitted value `%` is ", bind.name.word.bytes());
+        let clash = clash_of(search, &bind.value, emitted);
         if clash.is_some() {
             return clash;
         }
@@ -282,15 +278,16 @@ fn clash_in_effect(search: Search, effect: &EmitDecl) -> Option<Clash> {
         scope: &scope,
         at: search.at,
     };
-    clash_of(search, &effect.test, Requirement::When).or(clash_in_statements(applied, effect))
+    let when = only(Kind::Bool, b"`when` takes a bool", b"");
+    clash_of(search, &effect.test, when).or(clash_in_statements(applied, effect))
 }
 
-fn clash_in_statements(search: Search, effect: &EmitDecl) -> Option<Clash> {
+fn clash_in_statements<'a>(search: Search, effect: &'a EmitDecl) -> Option<Clash<'a>> {
     for statement in effect.stmts.items() {
-        let target = statement.target.word;
-        let requirement = match kind_named(search.scope, &target) {
-            Some(kind) => Requirement::Assigned(kind),
-            None => Requirement::Any,
+        let target = &statement.target.word;
+        let requirement = match kind_named(search.scope, target) {
+            Some(kind) => only(kind, b"the field `%` is ", target.bytes()),
+            None => ANY,
         };
         let clash = clash_of(search, &statement.value, requirement);
         if clash.is_some() {

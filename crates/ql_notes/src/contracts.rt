@@ -1,20 +1,15 @@
 // Notes on the contract of a `holds` file.
 ghost use Rattle.std.specs.Prelude.{◌<◌, ◌≤◌, ◌^◌, length};
 
-use crate::answer::Fault;
-use crate::first::{first_of, push_first_at};
+use crate::answers::Fault;
 use crate::lexical::{is_lexical, push_lexical_fault};
-use crate::meant::{push_instead, push_unknown};
 use crate::notes::SOURCE_BYTES;
-use crate::pieces::{pieces_of, tokens_of, word_at};
-use crate::rules::sentence;
-use crate::sources::{after_word, form_sentence};
-use crate::syntax::{Break, push_syntax};
+use crate::pieces::{next_of, pieces, tokens_of};
+use crate::sources::{Reading, push_fault_at};
 use crate::text::Text;
-use crate::typing::{offset_of, rule_of};
-use crate::words::is;
+use crate::words::{find_line, has_word, named};
 use ql_base::{Names, NoMemory};
-use ql_excerpt::{File, Spot, line_of, push_fault};
+use ql_excerpt::{File, Spot, line_of};
 use ql_lex::{LexFault, Token};
 use ql_parse::{ParseFault, few_operations, parse_contract};
 use ql_typing::{TypeFault, resolve};
@@ -23,16 +18,11 @@ use std::alloc::Global;
 // The most bytes of a contract that gets a note.
 const BYTES: usize = 65_536;
 
-// A source around a contract: what comes before and after it.
+// What comes before a contract in a source around it.
 const BEFORE: &[u8] = b"type t { op f(): unit { contract ";
 
-const AFTER: &[u8] = b"; answer unit; } }";
-
-// How many tokens come before the contract there.
-const TOKENS_BEFORE: usize = 11;
-
-/// The text of the contract at an offset, up to the end of its line; empty where it is too long.
-pub(crate) fn contract_at(text: &[u8], from: usize) -> &[u8]
+// The text of the contract at an offset, up to the end of its line; empty where it is too long.
+fn contract_at(text: &[u8], from: usize) -> &[u8]
     ensures { length result.now ≤ 65536 }
 {
     if from > text.len() {
@@ -40,36 +30,6 @@ pub(crate) fn contract_at(text: &[u8], from: usize) -> &[u8]
     }
     let line = line_of(&text[from..]);
     if line.len() > BYTES { b"" } else { line }
-}
-
-// A contract of a file, the offset at which it begins, and its tokens.
-#[derive(Clone, Copy)]
-struct Placed<'a> {
-    file: File<'a>,
-    text: &'a [u8],
-    from: usize,
-    tokens: &'a [Token],
-}
-
-impl Placed<'_> {
-    fn word_at(&self, at: usize) -> &[u8] {
-        word_at(self.text, self.tokens, at)
-    }
-
-    // The bytes of the file with the token at an offset.
-    fn spot(&self, at: usize) -> Spot {
-        Spot {
-            from: self.from.saturating_add(at),
-            bytes: self.word_at(at).len(),
-        }
-    }
-}
-
-// The first fault of a contract: its offset in the contract, and the rule that it breaks in a source.
-#[derive(Clone, Copy)]
-struct ContractFault {
-    at: usize,
-    rule: &'static [u8],
 }
 
 /// Appends a note on a fault in the contract at an offset.
@@ -80,134 +40,36 @@ pub(crate) fn push_contract_fault(
     fault: Fault,
     from: usize,
 ) -> Result<(), NoMemory> {
-    let text = contract_at(file.text, from);
-    let found = fault_in(alloc, text)?;
+    let contract = contract_at(file.text, from);
+    let found = fault_in(alloc, contract)?;
     if is_lexical(found.rule) {
         let at = from.saturating_add(found.at);
         push_lexical_fault(note, file, at, found.rule, fault.rule);
         return Ok(());
     }
-    let tokens = tokens_of(alloc, text)?;
-    let contract = Placed {
+    let text = [BEFORE, contract].concat(alloc)?;
+    if text.len() > SOURCE_BYTES {
+        return Ok(());
+    }
+    let tokens = tokens_of(alloc, &text)?;
+    let pieces = pieces(alloc, &text, &tokens)?;
+    let source = Reading {
         file,
-        text,
-        from,
+        text: &text,
         tokens: &tokens,
+        pieces: &pieces,
+        before: BEFORE.len(),
+        from,
     };
-    if is(found.rule, b"Unexpected") {
-        push_contract_syntax(alloc, note, &contract, found.at)
-    } else {
-        push_contract_misuse(alloc, note, &contract, found)
-    }
+    let at = BEFORE.len().saturating_add(found.at);
+    push_fault_at(alloc, note, &source, at, found.rule, fault.rule)
 }
 
-// What was expected in a contract, whose grammar is a part of that of sources.
-fn push_contract_syntax(
-    alloc: Global,
-    note: &mut Text,
-    contract: &Placed,
+// The first fault of a contract: its offset in the contract, and the rule that it breaks in a source.
+#[derive(Clone, Copy)]
+struct ContractFault {
     at: usize,
-) -> Result<(), NoMemory> {
-    let word = contract.word_at(at);
-    let rule = b"Unexpected".as_slice();
-    note.push_fault(
-        contract.file,
-        contract.spot(at),
-        rule,
-        form_sentence(rule, word),
-    );
-    if at > contract.text.len() {
-        return Ok(());
-    }
-    let before = [BEFORE, &contract.text[..at]].concat(alloc)?;
-    let rest = [after_word(&contract.text[at..], word), AFTER].concat(alloc)?;
-    let found = Break {
-        before: &before,
-        word,
-        rest: &rest,
-        is_line: true,
-    };
-    push_syntax(alloc, note, found)
-}
-
-// A fault of the names in a contract, by the contract's tokens inside a source.
-fn push_contract_misuse(
-    alloc: Global,
-    note: &mut Text,
-    contract: &Placed,
-    fault: ContractFault,
-) -> Result<(), NoMemory> {
-    let whole = [BEFORE, contract.text].concat(alloc)?;
-    if whole.len() > SOURCE_BYTES {
-        return Ok(());
-    }
-    let pieces = pieces_of(alloc, &whole)?;
-    let k = number_at(contract.tokens, fault.at).saturating_add(TOKENS_BEFORE);
-    push_misuse_at(alloc, note, contract, fault, &pieces, k)
-}
-
-// The same by the pieces of the source, and the index of the faulty one.
-fn push_misuse_at(
-    alloc: Global,
-    note: &mut Text,
-    contract: &Placed,
-    fault: ContractFault,
-    pieces: &[&[u8]],
-    k: usize,
-) -> Result<(), NoMemory> {
-    let spot = contract.spot(fault.at);
-    note.begin_fault(contract.file, spot, shown_rule(fault.rule));
-    if is(fault.rule, b"Unknown") {
-        push_unknown(note, pieces, k);
-    } else {
-        note.push(sentence(b"source", fault.rule));
-    }
-    note.end_fault(contract.file, spot);
-    if is(fault.rule, b"Unknown") {
-        push_instead(alloc, note, pieces, k)?;
-    } else if is(fault.rule, b"Twice") {
-        push_first_in_contract(note, contract, first_of(pieces, k));
-    }
-    Ok(())
-}
-
-// Where a name occurs first, by the index of its token inside a source, if it occurs before.
-fn push_first_in_contract(note: &mut Text, contract: &Placed, first: Option<usize>) {
-    let Some(k) = first else {
-        return;
-    };
-    push_first_at(
-        note,
-        contract.file,
-        contract.from.saturating_add(offset_in(contract.tokens, k)),
-    );
-}
-
-// The rule as the answer reports it: a contract that doesn't have its form is `Unexpected`.
-fn shown_rule(rule: &'static [u8]) -> &'static [u8] {
-    if is(rule, b"Deep") || is(rule, b"Wide") {
-        b"Unexpected"
-    } else {
-        rule
-    }
-}
-
-// The index of the token at an offset.
-fn number_at(tokens: &[Token], at: usize) -> usize {
-    for (k, token) in tokens.iter().enumerate() {
-        if token.from as usize == at {
-            return k;
-        }
-    }
-    tokens.len()
-}
-
-// The offset of a token of a contract, by its index inside a source.
-fn offset_in(tokens: &[Token], k: usize) -> usize {
-    match tokens.get(k.saturating_sub(TOKENS_BEFORE)) {
-        Some(token) => token.from as usize,
-        None => 0,
-    }
+    rule: &'static [u8],
 }
 
 // The first fault of a contract; where there is none, offset 0 and no rule.
@@ -225,15 +87,18 @@ fn fault_in(alloc: Global, contract: &[u8]) -> Result<ContractFault, NoMemory>
 }
 
 fn name_fault(fault: Option<TypeFault>) -> Result<ContractFault, NoMemory> {
-    match fault {
-        None => Ok(contract_fault(0, b"")),
-        Some(TypeFault::NoMemory) => Err(NoMemory),
-        Some(fault) => Ok(contract_fault(offset_of(fault), rule_of(fault))),
-    }
-}
-
-fn contract_fault(at: usize, rule: &'static [u8]) -> ContractFault {
-    ContractFault { at, rule }
+    let (at, rule) = match fault {
+        Some(TypeFault::NoMemory) => return Err(NoMemory),
+        Some(TypeFault::Unknown(at)) => (at, b"Unknown".as_slice()),
+        Some(TypeFault::Twice(at)) => (at, b"Twice".as_slice()),
+        Some(TypeFault::Variables(at)) => (at, b"Variables".as_slice()),
+        Some(TypeFault::TxnAtom(at)) => (at, b"TxnAtom".as_slice()),
+        _ => (0, b"".as_slice()),
+    };
+    Ok(ContractFault {
+        at: at as usize,
+        rule,
+    })
 }
 
 fn parse_fault(fault: ParseFault) -> Result<ContractFault, NoMemory> {
@@ -246,5 +111,61 @@ fn parse_fault(fault: ParseFault) -> Result<ContractFault, NoMemory> {
         ParseFault::Lex(LexFault::LongWord(at)) => (at, b"LongWord".as_slice()),
         ParseFault::Lex(LexFault::BadNumber(at)) => (at, b"BadNumber".as_slice()),
     };
-    Ok(contract_fault(at as usize, rule))
+    Ok(ContractFault {
+        at: at as usize,
+        rule,
+    })
+}
+
+/// Appends a note for each operation that the contract of a file names though no effect has it.
+pub(crate) fn push_absent_operations(
+    alloc: Global,
+    note: &mut Text,
+    file: File,
+) -> Result<(), NoMemory> {
+    let Some(from) = find_line(file.text, b"contract", 0, b"contract") else {
+        return Ok(());
+    };
+    let contract = contract_at(file.text, from);
+    let ops = named(alloc, file.text, b"effect", 3)?;
+    let tokens = tokens_of(alloc, contract)?;
+    let pieces = pieces(alloc, contract, &tokens)?;
+    push_absent(note, file, from, &tokens, &pieces, &ops);
+    Ok(())
+}
+
+// The same for the tokens of the contract at an offset, and the operations of the effects.
+fn push_absent(
+    note: &mut Text,
+    file: File,
+    from: usize,
+    tokens: &[Token],
+    pieces: &[&[u8]],
+    ops: &[&[u8]],
+) {
+    let end = next_of(pieces, 0, b".").unwrap_or(0);
+    let mut before = b"".as_slice();
+    for (k, (token, name)) in tokens.iter().zip(pieces).enumerate() {
+        if k < end && has_word(b": |", before) && !is_among(ops, name) {
+            let spot = Spot {
+                from: from.saturating_add(token.from as usize),
+                bytes: name.len(),
+            };
+            note.begin_fault(file, spot, b"note");
+            note.push(
+                b"there is no effect of this operation, so the contract says nothing about it",
+            );
+            note.end_fault(file, spot);
+        }
+        before = *name;
+    }
+}
+
+fn is_among(words: &[&[u8]], wanted: &[u8]) -> bool {
+    for word in words {
+        if *word == wanted {
+            return true;
+        }
+    }
+    false
 }

@@ -1,9 +1,5 @@
 // The help text of the commands.
 
-use crate::likeness::likest_in;
-use crate::text::Text;
-use crate::words::has_word;
-
 /// The help text of the commands.
 pub const HELP: &str = "usage: ./quelea COMMAND ..
 
@@ -33,18 +29,3 @@ arguments, 7 too large. README.md describes each command, and docs/GUIDE.md
 walks through an example. QUELEA_NOTES=1 prints notes on faults on standard
 error even without a terminal; QUELEA_NOTES=0 never prints them.
 ";
-
-// The commands.
-const COMMANDS: &[u8] =
-    b"classify explain prove check verify holds run slim restart gen soak proof draw";
-
-/// Appends the command that was perhaps meant by a word that isn't one.
-pub(crate) fn push_command(note: &mut Text, word: &[u8]) {
-    if has_word(COMMANDS, word) {
-        return;
-    }
-    if let Some(meant) = likest_in(word, COMMANDS) {
-        note.push_filled(b"`%` isn't a command: did you mean ", &[word]);
-        note.push_filled(b"`%`?\n\n", &[meant]);
-    }
-}

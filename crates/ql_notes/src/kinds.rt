@@ -1,7 +1,7 @@
 // The kinds of expressions, as far as they can be determined.
 
 use ql_base::Word;
-use ql_lang::{Base, Bind, Expr, ExprNode, Field, Init, InitNode, Kind, Param};
+use ql_lang::{Bind, Expr, ExprNode, Field, Init, InitNode, Kind, Param};
 use ql_typing::{Function, find_function, kind_of_base, operator_gives};
 
 /// The names that an expression may use.
@@ -99,33 +99,5 @@ pub(crate) fn kind_of_init(init: &Init) -> Option<Kind> {
         InitNode::Bool(_) => Some(Kind::Bool),
         InitNode::Unit => Some(Kind::Unit),
         InitNode::Empty => None,
-    }
-}
-
-/// The spelling of a kind.
-pub(crate) fn spelling(kind: Kind) -> &'static [u8] {
-    match kind {
-        Kind::Unit => b"unit",
-        Kind::Int => b"int",
-        Kind::Bool => b"bool",
-        Kind::Text => b"text",
-        Kind::Set(Base::Int) => b"set(int)",
-        Kind::Set(Base::Bool) => b"set(bool)",
-        Kind::Set(Base::Text) => b"set(text)",
-        Kind::Map(key, value) => spelling_of_map(key, value),
-    }
-}
-
-fn spelling_of_map(key: Base, value: Base) -> &'static [u8] {
-    match (key, value) {
-        (Base::Int, Base::Int) => b"map(int, int)",
-        (Base::Int, Base::Bool) => b"map(int, bool)",
-        (Base::Int, Base::Text) => b"map(int, text)",
-        (Base::Bool, Base::Int) => b"map(bool, int)",
-        (Base::Bool, Base::Bool) => b"map(bool, bool)",
-        (Base::Bool, Base::Text) => b"map(bool, text)",
-        (Base::Text, Base::Int) => b"map(text, int)",
-        (Base::Text, Base::Bool) => b"map(text, bool)",
-        (Base::Text, Base::Text) => b"map(text, text)",
     }
 }

@@ -1,15 +1,14 @@
 // The note on an answer.
 ghost use Rattle.std.specs.Prelude.{◌≡◌, ◌≤◌, IfOk, length};
 
-use crate::absent_operations::push_absent_operations;
-use crate::answer::{Fault, fault_of};
-use crate::help::{HELP, push_command};
+use crate::answers::{Fault, fault_of, push_verdict};
+use crate::contracts::push_absent_operations;
+use crate::help::HELP;
 use crate::lines::push_line_fault;
-use crate::pieces::pieces_of;
+use crate::pieces::{pieces, tokens_of};
 use crate::refusals::{Refusal, Source, push_refusal, refusal_in};
 use crate::sources::push_source_fault;
 use crate::text::Text;
-use crate::verdicts::push_verdict;
 use crate::words::{has_word, is};
 use ql_base::{MAX_EXECUTION_BYTES, MAX_SOURCE_BYTES, NoMemory};
 use ql_excerpt::File;
@@ -53,7 +52,6 @@ fn push_note<S: Shelf>(
     shelf: &mut S,
 ) -> Result<(), NoMemory> {
     if status == Status::Usage {
-        push_command(note, command(words));
         note.push(HELP.as_bytes());
         Ok(())
     } else if let Some(fault) = fault_of(printed.first) {
@@ -142,16 +140,19 @@ fn push_found(
 ) -> Result<(), NoMemory>
     requires { length text.now ≤ 1048576 }
 {
-    let tokens = pieces_of(alloc, text)?;
-    let source = Source {
-        name: name.as_bytes(),
-        tokens: &tokens,
-    };
+    let tokens = tokens_of(alloc, text)?;
+    let pieces = pieces(alloc, text, &tokens)?;
     match finding {
-        Finding::Fault(fault) => push_line_fault(alloc, note, file, fault, &tokens)?,
-        Finding::Refusal(refusal) => push_refusal(note, file, source, refusal),
+        Finding::Fault(fault) => push_line_fault(alloc, note, file, fault, &pieces),
+        Finding::Refusal(refusal) => {
+            let source = Source {
+                name: name.as_bytes(),
+                tokens: &pieces,
+            };
+            push_refusal(note, file, source, refusal);
+            Ok(())
+        }
     }
-    Ok(())
 }
 
 fn file<'a>(name: &'a str, text: &'a [u8]) -> File<'a>

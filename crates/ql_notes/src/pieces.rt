@@ -1,11 +1,13 @@
-// The tokens of a source as words that can be replaced.
+// The tokens of a source as words.
 ghost use Rattle.std.specs.Prelude.{◌≤◌, length};
 
-use crate::text::Text;
-use crate::words::has_word;
+use crate::words::{has_word, is};
 use ql_base::NoMemory;
 use ql_lex::{LexFault, Token, tokens};
 use std::alloc::Global;
+
+// The words with which the parts of a source begin.
+const PARTS: &[u8] = b"type state op contract answer emit when apply transaction uses";
 
 /// The tokens of a text, empty where some of it isn't a token.
 pub(crate) fn tokens_of(alloc: Global, text: &[u8]) -> Result<Vec<Token>, NoMemory>
@@ -29,14 +31,6 @@ pub(crate) fn pieces<'a>(
         pieces.push(part(text, *token))?;
     }
     Ok(pieces)
-}
-
-/// The bytes of the tokens of a text, in order.
-pub(crate) fn pieces_of<'a>(alloc: Global, text: &'a [u8]) -> Result<Vec<&'a [u8]>, NoMemory>
-    requires { length text.now ≤ 1048576 }
-{
-    let found = tokens_of(alloc, text)?;
-    pieces(alloc, text, &found)
 }
 
 /// The bytes of a token.
@@ -67,70 +61,6 @@ pub(crate) fn piece_before<'a>(pieces: &[&'a [u8]], k: usize) -> &'a [u8] {
     piece(pieces, k.saturating_sub(1))
 }
 
-/// The piece after the last one up to an index, inclusive, that is one of some words; empty where there is none.
-pub(crate) fn piece_after_last<'a>(pieces: &[&'a [u8]], k: usize, words: &[u8]) -> &'a [u8] {
-    match last_of(pieces, k, words) {
-        Some(j) => piece_after(pieces, j),
-        None => b"",
-    }
-}
-
-/// How often a word occurs.
-pub(crate) fn count_of(pieces: &[&[u8]], word: &[u8]) -> usize {
-    let mut count = 0usize;
-    for piece in pieces {
-        if *piece == word {
-            count = count.saturating_add(1);
-        }
-    }
-    count
-}
-
-/// The piece after the occurrence of a word at an index, empty where there is none.
-pub(crate) fn piece_after_nth<'a>(pieces: &[&'a [u8]], word: &[u8], number: usize) -> &'a [u8] {
-    let mut count = 0usize;
-    for (j, piece) in pieces.iter().enumerate() {
-        if *piece == word {
-            if count == number {
-                return piece_after(pieces, j);
-            }
-            count = count.saturating_add(1);
-        }
-    }
-    b""
-}
-
-/// The pieces that follow some words, which are from an index on and before another one.
-pub(crate) fn pieces_after<'a>(
-    alloc: Global,
-    pieces: &[&'a [u8]],
-    from: usize,
-    to: usize,
-    words: &[u8],
-) -> Result<Vec<&'a [u8]>, NoMemory> {
-    let mut found = Vec::new(alloc);
-    for (j, piece) in pieces.iter().enumerate() {
-        if from <= j && j < to && has_word(words, piece) {
-            found.push(piece_after(pieces, j))?;
-        }
-    }
-    Ok(found)
-}
-
-/// Replaces a piece by a word.
-pub(crate) fn put<'a>(pieces: &mut [&'a [u8]], k: usize, word: &'a [u8]) {
-    if k < pieces.len() {
-        pieces[k] = word;
-    }
-}
-
-/// Replaces pieces by empty ones.
-pub(crate) fn clear(pieces: &mut [&[u8]], from: usize, to: usize) {
-    for k in from..to {
-        put(pieces, k, b"");
-    }
-}
-
 /// The last piece up to an index, inclusive, that is one of some words.
 pub(crate) fn last_of(pieces: &[&[u8]], k: usize, words: &[u8]) -> Option<usize> {
     let mut found = None;
@@ -152,70 +82,103 @@ pub(crate) fn next_of(pieces: &[&[u8]], k: usize, words: &[u8]) -> Option<usize>
     None
 }
 
-/// The first piece from an index on, and before another one, that is a word.
-pub(crate) fn place_between(
-    pieces: &[&[u8]],
+/// The pieces that follow some words, which are from an index on and before another one.
+pub(crate) fn pieces_after<'a>(
+    alloc: Global,
+    pieces: &[&'a [u8]],
     from: usize,
     to: usize,
-    word: &[u8],
-) -> Option<usize> {
+    words: &[u8],
+) -> Result<Vec<&'a [u8]>, NoMemory> {
+    let mut found = Vec::new(alloc);
     for (j, piece) in pieces.iter().enumerate() {
-        if from <= j && j < to && *piece == word {
+        if from <= j && j < to && has_word(words, piece) {
+            found.push(piece_after(pieces, j))?;
+        }
+    }
+    Ok(found)
+}
+
+/// The names after each occurrence of a keyword, among the tokens of a source.
+pub(crate) fn declared<'a>(
+    alloc: Global,
+    source: &[&'a [u8]],
+    keyword: &[u8],
+) -> Result<Vec<&'a [u8]>, NoMemory> {
+    pieces_after(alloc, source, 0, source.len(), keyword)
+}
+
+/// The first token between two others that has a name and comes right after a keyword.
+pub(crate) fn declared_between(
+    source: &[&[u8]],
+    from: usize,
+    to: usize,
+    keyword: &[u8],
+    name: &[u8],
+) -> Option<usize> {
+    for (j, token) in source.iter().enumerate() {
+        if from < j && j < to && *token == name && piece_before(source, j) == keyword {
             return Some(j);
         }
     }
     None
 }
 
-/// The last non-empty piece before an index, or the index itself where there is none.
-pub(crate) fn before(pieces: &[&[u8]], k: usize) -> usize {
-    let mut found = k;
-    for (j, piece) in pieces.iter().enumerate() {
-        if j < k && !piece.is_empty() {
-            found = j;
-        }
-    }
-    found
+/// The token with which a source declares a name.
+pub(crate) fn place_of_name(source: &[&[u8]], keyword: &[u8], name: &[u8]) -> Option<usize> {
+    declared_between(source, 0, source.len(), keyword, name)
 }
 
-/// The first non-empty piece after an index, or the index itself where there is none.
-pub(crate) fn after(pieces: &[&[u8]], k: usize) -> usize {
-    for (j, piece) in pieces.iter().enumerate() {
-        if k < j && !piece.is_empty() {
-            return j;
-        }
+/// The type around a token.
+pub(crate) fn type_at<'a>(source: &[&'a [u8]], k: usize) -> &'a [u8] {
+    match last_of(source, k, b"type") {
+        Some(start) => piece_after(source, start),
+        None => b"",
     }
-    k
 }
 
-/// The text of pieces, each on a line of its own.
-pub(crate) fn joined(alloc: Global, pieces: &[&[u8]]) -> Result<Vec<u8>, NoMemory> {
-    let mut text = Text::new(alloc);
-    for piece in pieces {
-        text.push(piece);
-        text.push(b"\n");
-    }
-    text.whole()
+/// The word that begins the part of a source around a piece, and its index.
+pub(crate) fn part_of<'a>(pieces: &[&'a [u8]], k: usize) -> (&'a [u8], usize) {
+    let start = last_of(pieces, k, PARTS).unwrap_or(0);
+    (piece(pieces, start), start)
 }
 
-/// The index of the piece at an offset of their joined text.
-pub(crate) fn piece_at(pieces: &[&[u8]], offset: usize) -> usize {
-    let mut from = 0usize;
-    for (k, piece) in pieces.iter().enumerate() {
-        from = from.saturating_add(piece.len()).saturating_add(1);
-        if offset < from {
-            return k;
-        }
-    }
-    pieces.len()
+/// Whether a piece is one of the operations of a variable.
+pub(crate) fn is_chosen(pieces: &[&[u8]], k: usize) -> bool {
+    is(part_of(pieces, k).0, b"contract") && has_word(b": |", piece_before(pieces, k))
 }
 
-/// The bytes of the token at an offset; empty where no token begins.
-pub(crate) fn word_at<'a>(text: &'a [u8], found: &[Token], at: usize) -> &'a [u8] {
-    for token in found {
-        if token.from as usize == at {
-            return part(text, *token);
+/// Whether a token is a name with a kind after it.
+fn is_bound(tokens: &[&[u8]], k: usize) -> bool {
+    has_word(b"emit ( ,", piece_before(tokens, k)) && is(piece_after(tokens, k), b":")
+}
+
+/// The names with a kind after them, between two tokens.
+pub(crate) fn push_bound<'a>(
+    names: &mut Vec<&'a [u8]>,
+    tokens: &[&'a [u8]],
+    from: usize,
+    to: usize,
+) -> Result<(), NoMemory> {
+    for (j, token) in tokens.iter().enumerate() {
+        if from < j && j < to && is_bound(tokens, j) {
+            names.push(*token)?;
         }
     }
-    b""
+    Ok(())
+}
+
+/// The first token between two others that is a word with a kind after it.
+pub(crate) fn bound_between(
+    tokens: &[&[u8]],
+    from: usize,
+    to: usize,
+    word: &[u8],
+) -> Option<usize> {
+    for (j, token) in tokens.iter().enumerate() {
+        if from < j && j < to && is_bound(tokens, j) && *token == word {
+            return Some(j);
+        }
+    }
+    None
 }

@@ -1,11 +1,9 @@
 // Notes on a certificate or a proof that is refused: the section, the line, and what can be done.
 ghost use Rattle.std.specs.Prelude.{◌≤◌, length};
 
-use crate::above::{first_word, is_line_start, without_return};
-use crate::declared::word_of;
-use crate::pieces::{count_of, piece_after_nth};
+use crate::pieces::piece_after;
 use crate::text::Text;
-use crate::words::{has_word, is, sentence_of, word};
+use crate::words::{has_word, is, is_line_start, sentence_of, without_return, word, word_of};
 use ql_base::number_of;
 use ql_excerpt::{File, Spot, line_of};
 
@@ -123,23 +121,29 @@ fn push_cause(said: &mut Text, refusal: Refusal) {
 
 // Appends what a source has as the section with a number, from 1: its operations, and then its transactions.
 fn push_order(said: &mut Text, source: &[&[u8]], number: u64) {
-    let k = number.saturating_sub(1) as usize;
-    let ops = count_of(source, b"op");
-    if k < ops {
-        push_section(said, number, b"op", piece_after_nth(source, b"op", k))
-    } else {
-        let name = piece_after_nth(source, b"transaction", k.saturating_sub(ops));
-        push_section(said, number, b"txn", name)
+    let mut count = 0u64;
+    for (keyword, sort) in [
+        (b"op".as_slice(), b"op".as_slice()),
+        (b"transaction", b"txn"),
+    ] {
+        for (k, token) in source.iter().enumerate() {
+            if *token == keyword {
+                count = count.saturating_add(1);
+                if count == number {
+                    return said.push_counted(
+                        b"sections follow the order of the source, so section # must be that of `% %`",
+                        &[sort, piece_after(source, k)],
+                        &[number],
+                    );
+                }
+            }
+        }
     }
-}
-
-fn push_section(said: &mut Text, number: u64, sort: &[u8], name: &[u8]) {
-    let sentence: &[u8] = if name.is_empty() {
-        b"sections follow the order of the source, and section # is one too many"
-    } else {
-        b"sections follow the order of the source, so section # must be that of `% %`"
-    };
-    said.push_counted(sentence, &[sort, name], &[number]);
+    said.push_counted(
+        b"sections follow the order of the source, and section # is one too many",
+        &[],
+        &[number],
+    );
 }
 
 // Whether a higher level could help: the hints lead nowhere, and the level isn't the highest.
@@ -157,7 +161,7 @@ fn section_spot(text: &[u8], number: u64) -> Spot {
         if !is_line_start(text, k) {
             continue;
         }
-        let first = first_word(line_of(&text[k..]));
+        let first = word_of(line_of(&text[k..]), 0);
         if has_word(b"op txn end", first) {
             count = count.saturating_add(1);
         }
@@ -181,7 +185,7 @@ fn spot_of(text: &[u8], refusal: Refusal) -> Spot {
             if refusal.line.is_empty() {
                 return whole_line(text, k);
             }
-        } else if is_inside && first_word(line) == refused_word(refusal) {
+        } else if is_inside && word_of(line, 0) == refused_word(refusal) {
             return whole_line(text, k);
         }
     }

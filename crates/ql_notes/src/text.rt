@@ -4,6 +4,9 @@ use ql_base::{NoMemory, push_number};
 use ql_excerpt::{File, Spot, place_of, push_excerpt, push_position};
 use std::alloc::Global;
 
+// How many names are listed at most.
+const MOST: usize = 12;
+
 /// A text to which bytes are appended. Out of memory, some are missing, and it isn't whole.
 #[derive(Drop)]
 pub(crate) struct Text {
@@ -34,27 +37,60 @@ impl Text {
         }
     }
 
-    pub(crate) fn push_number(&mut self, number: u64) {
+    fn push_number(&mut self, number: u64) {
         if push_number(&mut self.bytes, number).is_err() {
             self.is_whole = false;
         }
     }
 
-    /// Appends the position of an offset of a file.
-    pub(crate) fn push_position(&mut self, file: File, at: usize) {
-        let place = place_of(file.text, at);
-        if push_position(&mut self.bytes, file.name, place).is_err() {
-            self.is_whole = false;
+    /// Appends a sentence with the words in the places of `%`, in order.
+    pub(crate) fn push_filled(&mut self, sentence: &[u8], words: &[&[u8]]) {
+        self.push_counted(sentence, words, &[]);
+    }
+
+    /// Appends a sentence with the words in the places of `%` and the numbers in those of `#`, each in order. A place for
+    /// which there is none stays as it is.
+    pub(crate) fn push_counted(&mut self, sentence: &[u8], words: &[&[u8]], numbers: &[u64]) {
+        let (mut word, mut number) = (0usize, 0usize);
+        for byte in sentence {
+            if *byte == b'%' && word < words.len() {
+                self.push(words[word]);
+                word += 1;
+            } else if *byte == b'#' && number < numbers.len() {
+                self.push_number(numbers[number]);
+                number += 1;
+            } else {
+                self.push(&[*byte]);
+            }
         }
     }
 
-    /// Appends the line with some bytes of a file, and a mark under them.
-    fn push_excerpt(&mut self, file: File, spot: Spot) {
-        let place = place_of(file.text, spot.from);
-        // The line after the last one is empty.
-        if place.start < file.text.len()
-            && push_excerpt(&mut self.bytes, file.text, place, spot.bytes).is_err()
-        {
+    /// Appends the names that are known, at most a dozen.
+    pub(crate) fn push_known(&mut self, names: &[&[u8]]) {
+        if names.is_empty() {
+            return self.push(b"  no names are known here\n");
+        }
+        self.push(b"  known here: ");
+        for (k, name) in names.iter().take(MOST).enumerate() {
+            self.push_filled(if k == 0 { b"`%`" } else { b", `%`" }, &[name]);
+        }
+        self.push(if names.len() > MOST {
+            b" and more\n"
+        } else {
+            b"\n"
+        });
+    }
+
+    /// Appends what is at the position of an offset of a file.
+    pub(crate) fn push_place(&mut self, what: &[u8], file: File, at: usize) {
+        self.push(what);
+        self.push_position(file, at);
+        self.push(b"\n");
+    }
+
+    fn push_position(&mut self, file: File, at: usize) {
+        let place = place_of(file.text, at);
+        if push_position(&mut self.bytes, file.name, place).is_err() {
             self.is_whole = false;
         }
     }
@@ -65,16 +101,15 @@ impl Text {
         self.push_filled(b": %: ", &[rule]);
     }
 
-    /// Ends the sentence on a fault, and appends the line with it.
+    /// Ends the sentence on a fault, and appends the line with a mark under it.
     pub(crate) fn end_fault(&mut self, file: File, spot: Spot) {
         self.push(b"\n");
-        self.push_excerpt(file, spot);
-    }
-
-    /// Appends a fault: its position, the rule that it breaks, a sentence, and the line.
-    pub(crate) fn push_fault(&mut self, file: File, spot: Spot, rule: &[u8], sentence: &[u8]) {
-        self.begin_fault(file, spot, rule);
-        self.push(sentence);
-        self.end_fault(file, spot);
+        let place = place_of(file.text, spot.from);
+        // The line after the last one is empty.
+        if place.start < file.text.len()
+            && push_excerpt(&mut self.bytes, file.text, place, spot.bytes).is_err()
+        {
+            self.is_whole = false;
+        }
     }
 }
