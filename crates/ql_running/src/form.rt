@@ -1,5 +1,5 @@
 /// How a run is written.
-#[derive(Clone, Copy, Debug, PartialEq, Eq)]
+#[derive(Clone, Copy)]
 pub enum Form {
     /// Lines: the levels, the replies, and the execution.
     Text,
