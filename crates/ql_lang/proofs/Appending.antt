@@ -1,6 +1,6 @@
-use Rattle.std.proofs.Common.{◌≡◌, ℕ, ◌<◌, ◌+◌, List, ◌∷◌, ◌++◌, ◌∙◌, ap, sym, append_assoc, drop, length, map}
+use Rattle.std.proofs.Common.{◌≡◌, ℕ, ◌<◌, ◌≤◌, ◌+◌, List, ◌∷◌, ◌++◌, ◌∙◌, ap, sym, append_assoc, drop, length, map}
 use Rattle.std.proofs.Math.ListN.{get_or}
-use Rattle.std.proofs.lemmas.List.{drop_more}
+use Rattle.std.proofs.lemmas.List.{append-nil, drop_all, drop_more}
 use Rattle.std.specs.List.{concat}
 
 -- a text behind which two more were put
@@ -37,3 +37,11 @@ one_marked mark F G xs i x a m b all below is so_far first second =
     ∙ ap (λ y. a ++ marked mark F G (y ∷ drop (i + 1) xs)) is
     ∙ ap (λ ys. a ++ marked mark F G ys) (sym (drop_more xs i x below))
     ∙ so_far
+
+-- no text is left
+pub none_left : {T U : Type 0} (F : U → List ℕ) (G : T → U) (xs : List T) (i : ℕ) (a all : List ℕ) → length xs ≤ i → a ++ concat (map F (map G (drop i xs))) ≡ all → a ≡ all
+none_left F G xs i a all past so_far = sym (append-nil a) ∙ ap (λ ys. a ++ concat (map F (map G ys))) (sym (drop_all i xs past)) ∙ so_far
+
+-- the same of texts with a mark before each
+pub none_marked : {T U : Type 0} (mark : List ℕ) (F : U → List ℕ) (G : T → U) (xs : List T) (i : ℕ) (a all : List ℕ) → length xs ≤ i → a ++ marked mark F G (drop i xs) ≡ all → a ≡ all
+none_marked mark F G xs i a all past so_far = sym (append-nil a) ∙ ap (λ ys. a ++ marked mark F G ys) (sym (drop_all i xs past)) ∙ so_far
