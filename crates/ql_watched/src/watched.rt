@@ -1,9 +1,14 @@
 ghost use Rattle.std.specs.Prelude.{◌≡◌, ◌≤◌, ◌++◌, [], length, IfOk, OnOk};
 ghost use Rattle.std.specs.List.{AllByRecursion};
+ghost use Rattle.ql_eval.specs.Able.{IsAble};
 ghost use Rattle.ql_eval.specs.Folds.{answered_of};
+ghost use Rattle.ql_machine.specs.declared.reply.Reply.{Reply};
 ghost use Rattle.ql_machine.specs.Rules.{Rules};
-ghost use Rattle.ql_machine.specs.State.{empty};
+ghost use Rattle.ql_machine.specs.State.{empty, received_at};
+ghost use Rattle.ql_machine.specs.Steps.{IsStep};
 ghost use Rattle.ql_schedule.specs.Guarantees.{IsSchedule};
+ghost use Rattle.ql_store.specs.Conditions.{HasRoom, IsAnswerable};
+ghost use Rattle.ql_store.specs.Events.{IsInRange};
 ghost use Rattle.ql_store.specs.Levels.{HasLevelOfEach, promises_of, uses_of};
 ghost use Rattle.ql_watched.specs.Watching.{Watches, new_ids};
 
@@ -11,6 +16,7 @@ use ql_base::{IdSet, NoMemory, ReplicaId};
 use ql_eval::TypedFolder;
 use ql_holder::Holder;
 use ql_levels::Levels;
+use ql_machine::Event;
 use ql_schedule::Schedule;
 use ql_store::Store;
 use ql_typing::Typed;
@@ -82,14 +88,62 @@ fn watch<H: Holder>(
         (λ a. (1 ≤ a) × (a ≤ length store.new.machine.effects)) arrivals.new.items) }
     ensures few { OnOk result (length store.new.machine.effects ≤ 4000) }
 {
+    let Schedule {
+        objects,
+        kinds,
+        events,
+        ..
+    } = schedule;
+    drop(objects);
+    drop(kinds);
     let folder = TypedFolder::new(alloc, typed);
     let mut received = IdSet::new(alloc);
-    for event in schedule.events.into_items() {
-        store.step(event, typed, &folder)?;
-        let now = store.received_at(replica)?;
-        push_new(arrivals, &received, now.items())?;
-        received = now;
+    for event in events.into_items() {
+        watch_event(
+            typed,
+            &folder,
+            event,
+            replica,
+            store,
+            &mut received,
+            arrivals,
+        )?;
     }
+    Ok(())
+}
+
+// Applies an event to a store, and adds what a replica receives then. `received` is what it has received.
+fn watch_event<H: Holder>(
+    typed: &Typed,
+    folder: &TypedFolder,
+    event: Event,
+    replica: ReplicaId,
+    store: &mut Store<H>,
+    received: &mut IdSet,
+    arrivals: &mut Vec<u32>,
+) -> Result<(), NoMemory>
+    requires range { IsInRange (length store.old.machine.received) store.old.levels event }
+    requires levels { HasLevelOfEach typed.now.program store.old.levels }
+    requires room { HasRoom store.old.machine }
+    requires able { IsAnswerable
+        (λ op args effects. IsAble folder.now.typed.now.program.types op.0 args effects)
+        store.old.machine.effects event }
+    ensures step { OnOk result
+        ((reply : Reply) × ((rules : Rules) → rules.promises ≡ promises_of store.old.levels
+        → rules.uses ≡ uses_of typed.now.program
+        → rules.answer
+        ≡ (λ op args seen. answered_of folder.now.typed.now.program.types op.0 args seen)
+        → IsStep rules store.old.machine event store.new.machine reply)) }
+    ensures levels { OnOk result (store.new.levels ≡ store.old.levels) }
+    ensures received { OnOk result
+        (received.new ≡ received_at store.new.machine.received replica.0) }
+    ensures arrivals { OnOk result
+        (arrivals.new.items ≡ arrivals.old.items ++ new_ids received.old received.new) }
+{
+    store.step(event, typed, folder)?;
+    let now = store.received_at(replica)?;
+    push_new(arrivals, received, now.items())?;
+    *received = now;
     Ok(())
 }
 

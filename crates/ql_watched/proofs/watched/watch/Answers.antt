@@ -1,4 +1,4 @@
-use Rattle.std.proofs.Common.{◌≡◌, ◌∷◌, ◌++◌, [], ℕ, List, length, sym, subst, ap, ◌∙◌, arith}
+use Rattle.std.proofs.Common.{◌≡◌, ◌∷◌, [], ℕ, List, length, sym, subst, ap, ◌∙◌, arith}
 use Rattle.std.proofs.lemmas.List.{nil_from_length}
 use Rattle.std.specs.Vec.Iter.{into_iter_items, into_iter_len}
 use Rattle.ql_base.specs.declared.ids.OpId.{OpId}
@@ -11,7 +11,6 @@ use Rattle.ql_levels.specs.Lists.{LevelLists}
 use Rattle.ql_store.specs.Conditions.{IsAnswerable}
 use Rattle.ql_store.specs.Events.{IsInRange}
 use Rattle.ql_store.specs.Levels.{HasLevelOfEach}
-use Rattle.ql_watched.specs.Watching.{new_ids}
 use Rattle.ql_machine.specs.State.{Machine}
 use Rattle.ql_value.specs.declared.value.Value.{Value}
 use Rattle.ql_watched.proofs.WatchLaws.{IsWatching, starts, may_go, goes, ends, few}
@@ -42,8 +41,8 @@ loop-event-init g c =
       lens ∙ ap length (sym items),
     )
 
-pub step-requires : goal.step-requires
-step-requires g c =
+pub watch_event-requires : goal.watch_event-requires
+watch_event-requires g c =
     let p = c.args.typed.now.program in
     let store = c.loop-event.store in
     let left = into_iter_items c.next.new.self in
@@ -68,11 +67,10 @@ loop-event-preserved g c =
     subst (λ (events : List Event). IsWatching p c.args.store.now.levels c.args.schedule c.args.replica.0 events store.levels store.machine c.loop-event.arrivals.items c.loop-event.received) steps c.loop-event.invariant.2 in
     let types : c.new-folder.result.typed.now.program.types ≡ p.types = (λ i. (c.new-folder.ensures.same i).now.program.types) in
     let next = goes p c.args.store.now.levels c.args.schedule c.requires.levels c.requires.schedule c.args.replica.0 c.new-folder.ensures.kinds c.in-Some.event left store.levels store.machine c.loop-event.arrivals.items c.loop-event.received on
-    c.step.new.self.machine c.step.new.self.levels c.in_ok-step.field-0 c.push_new.new.arrivals.items c.in_ok-now.now c.in_ok-step.ensures.levels
-    (λ rules promises uses answer. c.in_ok-step.ensures.step rules promises uses
+    c.watch_event.new.store.machine c.watch_event.new.store.levels c.in_ok-watch_event.ensures.step.0 c.watch_event.new.arrivals.items c.watch_event.new.received c.in_ok-watch_event.ensures.levels
+    (λ rules promises uses answer. c.in_ok-watch_event.ensures.step.1 rules promises uses
     (subst (λ (ts : List TypeDecl). rules.answer ≡ (λ (op : OpId) (args : List Value) (seen : List Effect). answered_of ts op.0 args seen)) (sym types) answer))
-    c.in_ok-now.ensures
-    (c.in_ok-push_new.ensures ∙ ap (λ (ids : List ℕ). c.loop-event.arrivals.items ++ new_ids c.loop-event.received ids) c.items.ensures.same) in
+    c.in_ok-watch_event.ensures.received c.in_ok-watch_event.ensures.arrivals in
     let count = ap length steps in
     let one = c.in-Some.ensures.steps.1 in
     let was = c.loop-event.invariant.3 in (tt, tt, next, omega (arith, count, one, was))
