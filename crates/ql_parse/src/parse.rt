@@ -28,6 +28,6 @@ pub fn parse_program(alloc: Global, bytes: &[u8]) -> Result<Program, ParseFault>
     let found = tokens(alloc, bytes)?;
     let mut reader = Reader::new(bytes, found.as_slice());
     let program = reader.program(alloc)?;
-    let ended = both(program, reader.end())?;
-    Ok(ended.0)
+    reader.end()?;
+    Ok(program)
 }

@@ -15,11 +15,11 @@ returns-in_err-program c =
     let p = err_from_is_err_and c.from_residual-in_err-program.result c.from_residual-in_err-program.ensures.1 in
     rw (p.1, p.2) (text_refused a_program source_of c.args.bytes.now c.in_ok-found.found.items c.new-reader.result c.in_ok-found.ensures.exact (c.new-reader.ensures ∙ ap (λ ts. whole c.args.bytes.now ts) c.as_slice.ensures.value) _ c.in_err-program.ensures.refused)
 
-pub returns-in_err-ended : goal.returns-in_err-ended
-returns-in_err-ended c =
-    let p = err_from_is_err_and c.from_residual-in_err-ended.result c.from_residual-in_err-ended.ensures.1 in
-    rw (p.1, p.2) (text_goes_on a_program source_of c.args.bytes.now c.in_ok-found.found.items c.new-reader.result c.in_ok-found.ensures.exact (c.new-reader.ensures ∙ ap (λ ts. whole c.args.bytes.now ts) c.as_slice.ensures.value) c.program.new.self _ _ c.in_ok-program.ensures.gave (rw c.in_err-ended.ensures.refused at c.end.ensures.err))
+pub returns-in_err-end : goal.returns-in_err-end
+returns-in_err-end c =
+    let p = err_from_is_err_and c.from_residual-in_err-end.result c.from_residual-in_err-end.ensures.1 in
+    rw (p.1, p.2) (text_goes_on a_program source_of c.args.bytes.now c.in_ok-found.found.items c.new-reader.result c.in_ok-found.ensures.exact (c.new-reader.ensures ∙ ap (λ ts. whole c.args.bytes.now ts) c.as_slice.ensures.value) c.program.new.self _ _ c.in_ok-program.ensures.gave c.in_err-end.ensures.err)
 
 pub returns : goal.returns
 returns c =
-    rw c.in_ok-ended.ensures.parts.0 (text_read a_program source_of c.args.bytes.now c.in_ok-found.found.items c.new-reader.result c.in_ok-found.ensures.exact (c.new-reader.ensures ∙ ap (λ ts. whole c.args.bytes.now ts) c.as_slice.ensures.value) c.program.new.self c.in_ok-program.program c.in_ok-program.ensures.gave (rw c.in_ok-ended.ensures.parts.1 at c.end.ensures.ok))
+    text_read a_program source_of c.args.bytes.now c.in_ok-found.found.items c.new-reader.result c.in_ok-found.ensures.exact (c.new-reader.ensures ∙ ap (λ ts. whole c.args.bytes.now ts) c.as_slice.ensures.value) c.program.new.self c.in_ok-program.program c.in_ok-program.ensures.gave c.in_ok-end.ensures.ok
