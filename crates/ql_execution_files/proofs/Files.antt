@@ -1,5 +1,5 @@
 -- A file says one execution, which is sound, or has one first fault, and never both or neither.
-use Rattle.std.proofs.Common.{◌≡◌, ◌≤◌, inr, ℕ, suc, List, [], ◌∷◌, Result, Ok, Err, length, ap, refl, subst, sym, ◌∙◌}
+use Rattle.std.proofs.Common.{◌≡◌, ◌≤◌, inl, inr, ℕ, suc, List, [], ◌∷◌, Result, Ok, Err, length, ap, refl, subst, sym, ◌∙◌}
 use Rattle.ql_exec.specs.declared.effect.Effect.{Effect}
 use Rattle.ql_lang.specs.declared.program.Program.{Program}
 use Rattle.ql_line_files.specs.declared.fault.Broken.{Broken}
@@ -8,6 +8,7 @@ use Rattle.ql_line_files.specs.declared.fault.LineFault.TheVariants as line
 use Rattle.ql_line_files.specs.Answers.{IsLineAnswer}
 use Rattle.ql_line_files.specs.Outcomes.{Leads, Outcome}
 use Rattle.ql_line_files.proofs.OneOutcome as law
+use Rattle.ql_lines.specs.Fields.{fields_of}
 use Rattle.ql_lines.specs.Lines.{Ahead, Numbered}
 use Rattle.ql_effect_lines.specs.declared.effect_line.EffectLine.{EffectLine}
 use Rattle.ql_effect_lines.specs.declared.rules.ReportRule.{ReportRule}
@@ -17,7 +18,7 @@ use Rattle.ql_effect_lines.specs.Effects.{AreOfProgram, after_effect}
 use Rattle.ql_execution_files.specs.declared.format.ExecutionReading.{ExecutionReading}
 use Rattle.ql_execution_files.specs.declared.format.ExecutionReading.TheVariants.{Unbegun, WithEffects, Ended}
 use Rattle.ql_execution_files.specs.declared.report_fault.ReportFault.{ReportFault}
-use Rattle.ql_execution_files.specs.ExecutionFile.{AreSound, ClosesExecution, FirstExecutionFault, ExtendsExecution, IsExecutionFile, fault_at, gives}
+use Rattle.ql_execution_files.specs.ExecutionFile.{AreSound, ClosesExecution, FirstExecutionFault, ExtendsExecution, IsExecutionFile, IsNextEffect, end_fields, fault_at, gives}
 use Rattle.ql_execution_files.specs.OneLine.{closes_one, closes_some, gives_one, gives_some, takes_sound}
 
 -- what an effect's line is refused for
@@ -25,6 +26,12 @@ pub broken : (p : Program) (read : EffectsRead) (text : List ℕ) (e : EffectLin
     → IsLineAnswer (λ x. after_effect p read e ≡ x) (Err fault) → IsLineAnswer (ExtendsExecution p (WithEffects read) text) (Err fault)
 broken p read text e is (line.Breaks rule) h = inr (record { effect = e; is = is; unlawful = h })
 broken p read text e is line.NoMemory h = tt
+
+-- what a line is refused for that is none of an effect
+pub no_effect : (p : Program) (read : EffectsRead) (text : List ℕ) → (fields_of text ≡ end_fields → ⊥) → (fault : LineFault ReportRule)
+    → IsLineAnswer (IsNextEffect read text) (Err fault) → IsLineAnswer (ExtendsExecution p (WithEffects read) text) (Err fault)
+no_effect p read text open_yet (line.Breaks rule) h = inl (record { is = h.0; no_effect = h.1; no_end = open_yet })
+no_effect p read text open_yet line.NoMemory h = tt
 
 module _ (p : Program) where
   leads_sound : (ls : List Numbered) (s t : ExecutionReading) → AreSound p s → Leads (gives p) ClosesExecution s ls t → AreSound p t

@@ -59,6 +59,11 @@ pub record IsNoLine (read : EffectsRead) (text : List ℕ) (rule : ReportRule) :
   pub no_effect : (e : EffectLine) → IsEffectLine text (suc (length read.effects)) e → ⊥
   pub no_end : fields_of text ≡ end_fields → ⊥
 
+-- the line is the next effect's, or none's
+abbrev pub IsNextEffect : EffectsRead → List ℕ → Result EffectLine ReportRule → Type 0
+IsNextEffect read text (Ok effect) = IsEffectLine text (suc (length read.effects)) effect
+IsNextEffect read text (Err rule) = (rule ≡ Unexpected) × ((e : EffectLine) → IsEffectLine text (suc (length read.effects)) e → ⊥)
+
 -- the line is an effect that breaks the rule, and no lower one
 pub record BreaksRule (p : Program) (read : EffectsRead) (text : List ℕ) (rule : ReportRule) : Type 0 where
   pub effect : EffectLine

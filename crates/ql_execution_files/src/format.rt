@@ -1,14 +1,14 @@
-ghost use Rattle.std.specs.Prelude.{◌≡◌, ◌∷◌, ◌↔◌, [], IsTrue, Ok};
+ghost use Rattle.std.specs.Prelude.{◌≡◌, ◌∷◌, ◌↔◌, ◌<◌, ◌+◌, ◌^◌, [], length, IsTrue, Ok};
 ghost use Rattle.ql_lang.specs.declared.program.Program.{Program};
 ghost use Rattle.ql_line_files.specs.Answers.{IsLineAnswer};
 ghost use Rattle.ql_lines.specs.Fields.{fields_of};
 ghost use Rattle.ql_effect_lines.specs.Effects.{IsSound};
 ghost use Rattle.ql_execution_files.specs.declared.format.ExecutionReading.TheVariants.{Unbegun, WithEffects};
-ghost use Rattle.ql_execution_files.specs.ExecutionFile.{AreSound, ClosesExecution, ExtendsExecution};
+ghost use Rattle.ql_execution_files.specs.ExecutionFile.{AreSound, ClosesExecution, ExtendsExecution, IsNextEffect};
 ghost use Rattle.ql_execution_files.specs.OneLine.{closes_one, closes_some, gives_one, gives_some, takes_sound};
 
 use ql_base::Names;
-use ql_effect_lines::{EffectsRead, ReportRule, read_line};
+use ql_effect_lines::{EffectLine, EffectsRead, ReportRule, read_line};
 use ql_exec::Execution;
 use ql_line_files::{Broken, FileFault, LineFault, LineFormat};
 use ql_lines::{after_word, first_field};
@@ -119,13 +119,26 @@ fn one_more(
     if is_word(text, b"end") {
         return Ok(ExecutionReading::Ended(read));
     }
-    let id = read.effects.len() + 1;
-    let Some(effect) = read_line(alloc, text, id)? else {
-        return Err(LineFault::Breaks(ReportRule::Unexpected));
-    };
+    let effect = next_effect(alloc, &read, text)?;
     match read.put(t, effect) {
         Ok(more) => Ok(ExecutionReading::WithEffects(more)),
         Err(fault) => Err(fault),
+    }
+}
+
+// The effect that a line says after these effects.
+fn next_effect(
+    alloc: Global,
+    read: &EffectsRead,
+    text: &[u8],
+) -> Result<EffectLine, LineFault<ReportRule>>
+    requires { length read.now.effects + 1 < 2 ^ 32 }
+    ensures { IsLineAnswer (IsNextEffect read.now text.now) result }
+{
+    let id = read.effects.len() + 1;
+    match read_line(alloc, text, id)? {
+        Some(effect) => Ok(effect),
+        None => Err(LineFault::Breaks(ReportRule::Unexpected)),
     }
 }
 

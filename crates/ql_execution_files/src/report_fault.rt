@@ -8,7 +8,7 @@ use ql_line_files::{Broken, FileFault};
 /// If a file ends too early, that is the line after its last one. Of the faults of one line, the first
 /// in this order is reported: Unexpected, Unknown, Mixed, NotForward, OtherObject, SplitTxn, Stamp,
 /// TooMany.
-#[derive(Clone, Copy, Debug, PartialEq, Eq)]
+#[derive(Clone, Copy)]
 pub enum ReportFault {
     /// No file continues with this line.
     Unexpected(u64),
