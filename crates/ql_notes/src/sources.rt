@@ -93,7 +93,7 @@ pub(crate) fn push_fault_at(
     rule: &[u8],
     reported: &[u8],
 ) -> Result<(), NoMemory>
-    requires { length source.text.now ≤ 1048576 }
+    requires { length source.now.text.now ≤ 1048576 }
 {
     let k = source.token_at(at);
     let word = piece(source.pieces, k);
@@ -162,7 +162,7 @@ fn push_wrong_kind(
     at: usize,
     spot: Spot,
 ) -> Result<(), NoMemory>
-    requires { length source.text.now ≤ 1048576 }
+    requires { length source.now.text.now ≤ 1048576 }
 {
     match parse_program(alloc, source.text) {
         Ok(program) => push_clash_in(note, source, at, spot, &program),
