@@ -21,7 +21,7 @@ use std::alloc::Global;
 
 /// The greatest lengths of files in bytes: of sources, schedules and the files of `holds` and `proof`, and of certificates
 /// and executions, which are second files.
-#[derive(Clone, Copy, Debug, PartialEq, Eq)]
+#[derive(Clone, Copy)]
 pub struct Limits {
     pub file: u32,
     pub second: u32,
@@ -69,7 +69,7 @@ fn of_file<S: Shelf>(
     ensures same_files { (other : List ℕ) → S.lacks shelf.new other ↔ S.lacks shelf.old other }
     ensures counts_stay { (other : List ℕ) → S.faults shelf.old other ≤ S.faults shelf.new other }
 {
-    match read_whole(alloc, shelf, name, limits.file) {
+    match read_whole(alloc, shelf, name, limits.file as u64) {
         Ok(bytes) => answer_command(alloc, command, bytes.as_slice()),
         Err(error) => unread(alloc, error, name),
     }
@@ -92,11 +92,11 @@ fn of_files<S: Shelf>(
     ensures same_files { (third : List ℕ) → S.lacks shelf.new third ↔ S.lacks shelf.old third }
     ensures counts_stay { (third : List ℕ) → S.faults shelf.old third ≤ S.faults shelf.new third }
 {
-    let bytes = match read_whole(alloc, shelf, name, limits.file) {
+    let bytes = match read_whole(alloc, shelf, name, limits.file as u64) {
         Ok(bytes) => bytes,
         Err(error) => return unread(alloc, error, name),
     };
-    let more = match read_whole(alloc, shelf, other, second_limit(limits, command)) {
+    let more = match read_whole(alloc, shelf, other, second_limit(limits, command) as u64) {
         Ok(more) => more,
         Err(error) => return unread(alloc, error, other),
     };

@@ -28,7 +28,7 @@ const MAX_REPLICA: u32 = MAX_REPLICAS - 1;
 const MAX_CUT: u32 = 1_000_000;
 
 /// What the program can be asked for of one file.
-#[derive(Clone, Copy, Debug, PartialEq, Eq)]
+#[derive(Clone, Copy)]
 pub enum Command {
     /// Whether a contract holds at an effect of an execution.
     Holds,
@@ -47,7 +47,7 @@ pub enum Command {
 }
 
 /// What it can be asked for of two files.
-#[derive(Clone, Copy, Debug, PartialEq, Eq)]
+#[derive(Clone, Copy)]
 pub enum PairCommand {
     /// Whether a certificate shows that levels are enough for a source.
     Check,

@@ -19,9 +19,6 @@ use std::alloc::Global;
 /// The most bytes of a source.
 pub(crate) const SOURCE_BYTES: usize = MAX_SOURCE_BYTES as usize;
 
-// The most bytes of other files.
-const FILE_BYTES: u64 = MAX_EXECUTION_BYTES;
-
 /// The beginning of an answer, and its last line.
 #[derive(Clone, Copy)]
 pub struct Printed<'a> {
@@ -123,8 +120,8 @@ fn push_finding<S: Shelf>(
     finding: Finding,
     shelf: &mut S,
 ) -> Result<(), NoMemory> {
-    let source_text = text_of(alloc, shelf, source, SOURCE_BYTES)?;
-    let text = text_of(alloc, shelf, name, FILE_BYTES)?;
+    let source_text = text_of(alloc, shelf, source, MAX_SOURCE_BYTES)?;
+    let text = text_of(alloc, shelf, name, MAX_EXECUTION_BYTES)?;
     let file = file(name, &text);
     push_found(alloc, note, source, &source_text, file, finding)
 }
@@ -175,7 +172,7 @@ fn push_bad_source<S: Shelf>(
     let Some(name) = file_of(words, 0) else {
         return Ok(());
     };
-    let text = text_of(alloc, shelf, name, SOURCE_BYTES)?;
+    let text = text_of(alloc, shelf, name, MAX_SOURCE_BYTES)?;
     push_source_fault(alloc, note, file(name, &text), fault)
 }
 
@@ -214,7 +211,7 @@ fn push_holding<S: Shelf>(
 ) -> Result<(), NoMemory> {
     match file_of(words, 0) {
         Some(name) if is(command(words), b"holds") => {
-            let text = text_of(alloc, shelf, name, FILE_BYTES)?;
+            let text = text_of(alloc, shelf, name, MAX_EXECUTION_BYTES)?;
             push_absent_operations(alloc, note, file(name, &text))
         }
         _ => Ok(()),
