@@ -18,4 +18,3 @@ returns-clause-clauses c = on_ok_weaker c.add_one_type.result
     c.in_ok-add_one_operation.ensures.clauses)
     h)
     c.add_one_type.ensures.clauses
-

@@ -25,4 +25,3 @@ returns-clause-clauses c = on_ok_weaker c.add_variables.result
     c.in_ok-add_own_operation.ensures.clauses)
     h)
     c.add_variables.ensures.clauses
-

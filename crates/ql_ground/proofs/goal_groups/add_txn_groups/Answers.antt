@@ -24,4 +24,3 @@ returns-clause-clauses c = on_ok_weaker c.add_variables.result
     c.in_ok-add_txn_level.ensures.clauses)
     h)
     c.add_variables.ensures.clauses
-

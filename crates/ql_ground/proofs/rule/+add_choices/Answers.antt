@@ -54,4 +54,3 @@ pub returns-clause-clauses : goal.returns-clause-clauses
 returns-clause-clauses t c =
     choices_done c.args.s.constants c.args.r.now.places c.args.depth c.loop-k.k (instance (size_of c.args.s) (rule_of c.args.r.now)) (take c.args.depth c.args.chosen)
     c.args.c.now.clauses c.loop-k.c.clauses (omega arith) (omega arith) c.loop-k.invariant.clauses
-
