@@ -12,10 +12,11 @@ returns-in_err-ops-clause-refused c =
     let p = err_from_is_err_and c.from_residual.result c.from_residual.ensures.1 in
     rw (p.1, p.2) (refusal_longer c.args.t.now.program (op_tests c.args.t.now.program) (every_txn_tests c.args.t.now.program) _ c.in_err-ops.ensures.refused)
 
-pub judge_txns-requires-clause-levels : goal.judge_txns-requires-clause-levels
-judge_txns-requires-clause-levels c =
-    subst (λ z. AreOpLevels c.args.t.now.program z) (sym c.deref.ensures.value)
-    (op_levels c.args.t.now.program c.in_ok-ops.ops.items c.in_ok-ops.evidence.items c.in_ok-ops.ensures.count c.in_ok-ops.ensures.evidence)
+pub judge_txns-requires : goal.judge_txns-requires
+judge_txns-requires c = record {
+  levels = subst (λ z. AreOpLevels c.args.t.now.program z) (sym c.deref.ensures.value)
+      (op_levels c.args.t.now.program c.in_ok-ops.ops.items c.in_ok-ops.evidence.items c.in_ok-ops.ensures.count c.in_ok-ops.ensures.evidence);
+}
 
 pub returns-in_err-txns-clause-refused : goal.returns-in_err-txns-clause-refused
 returns-in_err-txns-clause-refused c =
