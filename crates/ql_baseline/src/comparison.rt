@@ -12,34 +12,38 @@ use ql_classify::Finding;
 use ql_commands::{bad_source, read_source};
 use ql_explanation::{finding_at, findings, goal_of};
 use ql_line_files::{FileFault, read_file};
-use ql_reply::{Status, bad_line};
+use ql_reply::{Fault, Part, Reply, Rule, Status};
 use ql_typing::Typed;
 use std::alloc::Global;
 
 /// The targets of a source whose levels are higher than in a stored answer, a line for each. The answer is yes where there
 /// are none.
-pub fn compare(alloc: Global, source: &[u8], baseline: &[u8]) -> Result<(Status, Vec<u8>), NoMemory>
+pub fn compare(alloc: Global, source: &[u8], baseline: &[u8]) -> Result<Reply, NoMemory>
     requires { length source.now < 2 ^ 32 }
-    ensures { IfOk result (λ answer. BaselineSays source.now baseline.now answer.0 answer.1.items) }
+    ensures { IfOk result (λ reply. BaselineSays source.now baseline.now reply.status reply.text.items) }
 {
     let typed = match read_source(alloc, source) {
         Ok(typed) => typed,
-        Err(fault) => return Ok((Status::Bad, bad_source(alloc, fault)?)),
+        Err(fault) => return bad_source(alloc, fault),
     };
     match read_file(&Format { alloc }, baseline) {
         Ok(stored) => against(alloc, &typed, stored.items()),
-        Err(FileFault::Broken(fault)) => {
-            let text = bad_line(alloc, "baseline", fault.line, "Unexpected")?;
-            Ok((Status::Bad, text))
-        }
+        Err(FileFault::Broken(fault)) => Reply::bad(
+            alloc,
+            Fault {
+                part: Part::Baseline,
+                at: fault.line,
+                rule: Rule::Unexpected,
+            },
+        ),
         Err(FileFault::NoMemory) => Err(NoMemory),
     }
 }
 
 // What became of the levels since this answer was stored.
-fn against(alloc: Global, t: &Typed, stored: &[Stored]) -> Result<(Status, Vec<u8>), NoMemory>
+fn against(alloc: Global, t: &Typed, stored: &[Stored]) -> Result<Reply, NoMemory>
     ensures { IfOk result
-        (λ answer. IsComparison t.now.program stored.now answer.0 answer.1.items) }
+        (λ reply. IsComparison t.now.program stored.now reply.status reply.text.items) }
 {
     let findings = findings(alloc, t)?;
     let text = rises(alloc, t, stored, &findings)?;
@@ -48,7 +52,7 @@ fn against(alloc: Global, t: &Typed, stored: &[Stored]) -> Result<(Status, Vec<u
     } else {
         Status::No
     };
-    Ok((status, text))
+    Ok(Reply::new(status, text))
 }
 
 fn rises(

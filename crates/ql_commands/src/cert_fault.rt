@@ -1,18 +1,28 @@
 ghost use Rattle.std.specs.Prelude.{◌≡◌, IfOk, Some};
+ghost use Rattle.ql_reply.specs.declared.status.Status.TheVariants.{Bad};
 ghost use Rattle.ql_commands.specs.Check.{cert_fault_text};
 
 use ql_base::NoMemory;
 use ql_cert::CertFault;
-use ql_reply::bad_line;
+use ql_reply::{Fault, Part, Reply, Rule};
 use std::alloc::Global;
 
-/// The line that reports a certificate's first fault.
-pub(crate) fn bad_certificate(alloc: Global, fault: CertFault) -> Result<Vec<u8>, NoMemory>
-    ensures { IfOk result (λ text. cert_fault_text fault ≡ Some text.items) }
+/// The answer on a certificate with a fault.
+pub(crate) fn bad_certificate(alloc: Global, fault: CertFault) -> Result<Reply, NoMemory>
+    ensures status { IfOk result (λ reply. reply.status ≡ Bad) }
+    ensures text { IfOk result (λ reply. cert_fault_text fault ≡ Some reply.text.items) }
 {
-    match fault {
-        CertFault::Unexpected(line) => bad_line(alloc, "certificate", line, "Unexpected"),
-        CertFault::Number(line) => bad_line(alloc, "certificate", line, "Number"),
-        CertFault::NoMemory => Err(NoMemory),
-    }
+    let (at, rule) = match fault {
+        CertFault::Unexpected(line) => (line, Rule::Unexpected),
+        CertFault::Number(line) => (line, Rule::Number),
+        CertFault::NoMemory => return Err(NoMemory),
+    };
+    Reply::bad(
+        alloc,
+        Fault {
+            part: Part::Certificate,
+            at,
+            rule,
+        },
+    )
 }

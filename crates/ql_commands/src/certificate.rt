@@ -14,22 +14,25 @@ use ql_base::{DeclId, NoMemory, OpId, Word};
 use ql_cert::{SectionLevel, title_text, with_end, with_section};
 use ql_classify::Classified;
 use ql_levels::Levels;
-use ql_reply::Status;
+use ql_reply::{Reply, Status};
 use ql_typing::Typed;
 use std::alloc::Global;
 
 /// The certificate of a source's least levels, or what fails first.
-pub fn prove(alloc: Global, source: &[u8]) -> Result<(Status, Vec<u8>), NoMemory>
+pub fn prove(alloc: Global, source: &[u8]) -> Result<Reply, NoMemory>
     requires { length source.now < 2 ^ 32 }
-    ensures { IfOk result (λ answer. ProveSays source.now answer.0 answer.1.items) }
+    ensures { IfOk result (λ reply. ProveSays source.now reply.status reply.text.items) }
 {
     let typed = match read_source(alloc, source) {
         Ok(typed) => typed,
-        Err(fault) => return Ok((Status::Bad, bad_source(alloc, fault)?)),
+        Err(fault) => return bad_source(alloc, fault),
     };
     match ql_classify::classify(alloc, &typed) {
-        Ok(classified) => Ok((Status::Done, certificate(alloc, &classified)?)),
-        Err(why) => Ok((Status::No, refusal(alloc, &typed, why)?)),
+        Ok(classified) => Ok(Reply::new(
+            Status::Done,
+            certificate(alloc, &classified)?,
+        )),
+        Err(why) => refusal(alloc, &typed, why),
     }
 }
 

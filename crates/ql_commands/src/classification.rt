@@ -5,24 +5,24 @@ use crate::refusals::refusal;
 use crate::source::read_source;
 use crate::source_fault::bad_source;
 use ql_base::NoMemory;
-use ql_reply::Status;
+use ql_reply::{Reply, Status};
 use ql_report::print_levels;
 use std::alloc::Global;
 
 /// The least levels of a source's operations and transactions, or what fails first.
-pub fn classify(alloc: Global, source: &[u8]) -> Result<(Status, Vec<u8>), NoMemory>
+pub fn classify(alloc: Global, source: &[u8]) -> Result<Reply, NoMemory>
     requires { length source.now < 2 ^ 32 }
-    ensures { IfOk result (λ answer. ClassifySays source.now answer.0 answer.1.items) }
+    ensures { IfOk result (λ reply. ClassifySays source.now reply.status reply.text.items) }
 {
     let typed = match read_source(alloc, source) {
         Ok(typed) => typed,
-        Err(fault) => return Ok((Status::Bad, bad_source(alloc, fault)?)),
+        Err(fault) => return bad_source(alloc, fault),
     };
     match ql_classify::classify(alloc, &typed) {
-        Ok(classified) => Ok((
+        Ok(classified) => Ok(Reply::new(
             Status::Done,
             print_levels(alloc, &typed, classified.levels())?,
         )),
-        Err(why) => Ok((Status::No, refusal(alloc, &typed, why)?)),
+        Err(why) => refusal(alloc, &typed, why),
     }
 }

@@ -2,13 +2,13 @@ ghost use Rattle.std.specs.Prelude.{◌<◌, ◌^◌, length, IfOk};
 ghost use Rattle.ql_commands.specs.Check.{CheckSays, SectionsSay};
 
 use crate::cert_fault::bad_certificate;
-use crate::order::{first_out_of_order, order_line};
+use crate::order::{first_out_of_order, out_of_order};
 use crate::section_lines::push_sections;
 use crate::source::read_source;
 use crate::source_fault::bad_source;
 use ql_base::NoMemory;
 use ql_cert::{Section, parse_cert};
-use ql_reply::Status;
+use ql_reply::Reply;
 use ql_typing::Typed;
 use std::alloc::Global;
 
@@ -18,17 +18,17 @@ pub fn check(
     alloc: Global,
     source: &[u8],
     certificate: &[u8],
-) -> Result<(Status, Vec<u8>), NoMemory>
+) -> Result<Reply, NoMemory>
     requires { length source.now < 2 ^ 32 }
-    ensures { IfOk result (λ answer. CheckSays source.now certificate.now answer.0 answer.1.items) }
+    ensures { IfOk result (λ reply. CheckSays source.now certificate.now reply.status reply.text.items) }
 {
     let typed = match read_source(alloc, source) {
         Ok(typed) => typed,
-        Err(fault) => return Ok((Status::Bad, bad_source(alloc, fault)?)),
+        Err(fault) => return bad_source(alloc, fault),
     };
     let cert = match parse_cert(alloc, certificate) {
         Ok(cert) => cert,
-        Err(fault) => return Ok((Status::Bad, bad_certificate(alloc, fault)?)),
+        Err(fault) => return bad_certificate(alloc, fault),
     };
     check_sections(alloc, &typed, cert.sections.items())
 }
@@ -37,14 +37,18 @@ fn check_sections(
     alloc: Global,
     t: &Typed,
     sections: &[Section],
-) -> Result<(Status, Vec<u8>), NoMemory>
+) -> Result<Reply, NoMemory>
     ensures { IfOk result
-        (λ answer. SectionsSay t.now.program sections.now answer.0 answer.1.items) }
+        (λ reply. SectionsSay t.now.program sections.now reply.status reply.text.items) }
 {
     if let Some(place) = first_out_of_order(t, sections) {
-        return Ok((Status::No, order_line(alloc, place)?));
+        return out_of_order(alloc, place);
     }
     let mut text = Vec::new(alloc);
-    let status = push_sections(alloc, t, 0, sections, &mut text)?;
-    Ok((status, text))
+    let (status, cause) = push_sections(alloc, t, 0, sections, &mut text)?;
+    Ok(Reply {
+        status,
+        text,
+        cause,
+    })
 }

@@ -1,9 +1,11 @@
 // Whether the sections of a certificate are those that are expected.
 ghost use Rattle.std.specs.Prelude.{◌≡◌, ◌↔◌, ◌<◌, ◌≤◌, IfNone, IsTrue, MatchOption, Some, IfOk, length, map, slice_get};
+ghost use Rattle.ql_reply.specs.declared.status.Status.TheVariants.{No};
 ghost use Rattle.ql_commands.specs.Check.{AreExpected, IsOutOfOrder, Operation, Transaction, order_text, target_of, expected_targets};
 
 use ql_base::{DeclId, NoMemory, OpId, push_bytes, push_number};
 use ql_cert::{Section, SectionLevel};
+use ql_reply::{Cause, Reply, Status};
 use ql_typing::Typed;
 use std::alloc::Global;
 
@@ -68,12 +70,17 @@ fn is_txn_expected(t: &Typed, place: u32, name: &[u8]) -> bool
     t.txn(DeclId(number)).name.word.bytes() == name
 }
 
-/// The line that reports the first position out of order.
-pub(crate) fn order_line(alloc: Global, place: u32) -> Result<Vec<u8>, NoMemory>
-    ensures { IfOk result (λ text. text.items ≡ order_text place) }
+/// The answer on sections that are out of order from a position on.
+pub(crate) fn out_of_order(alloc: Global, place: u32) -> Result<Reply, NoMemory>
+    ensures status { IfOk result (λ reply. reply.status ≡ No) }
+    ensures text { IfOk result (λ reply. reply.text.items ≡ order_text place) }
 {
     let mut text = Vec::from_slice(alloc, b"order ")?;
     push_number(&mut text, place)?;
     push_bytes(&mut text, b"\n")?;
-    Ok(text)
+    Ok(Reply {
+        status: Status::No,
+        text,
+        cause: Cause::Order(place),
+    })
 }

@@ -1,6 +1,7 @@
 // The sections of a certificate, each checked against the ground problem of its own target.
 ghost use Rattle.std.specs.Prelude.{◌≡◌, ◌≤◌, ◌+◌, ◌++◌, ℕ, List, IfOk, OnOk, length, slice_get, Some};
 ghost use Rattle.ql_ground.specs.OfPrograms.{IsGoalOf};
+ghost use Rattle.ql_reply.specs.Causes.{IsNoFault};
 ghost use Rattle.ql_commands.specs.Check.{Reports, goal_of, refusal_end, section_text, target_of, expected_targets, verdict_text};
 ghost use Rattle.ql_commands.specs.Judging.{AreExpectedFrom, IsVerdictOn};
 
@@ -9,7 +10,7 @@ use ql_cert::{Section, SectionLevel};
 use ql_ground::{Goal, problem};
 use ql_levels::{level_word, txn_word};
 use ql_refute::{Refutation, Verdict, check};
-use ql_reply::Status;
+use ql_reply::{Cause, Refused, Rule, Status};
 use ql_typing::Typed;
 use std::alloc::Global;
 
@@ -20,15 +21,16 @@ pub(crate) fn push_sections(
     place: u32,
     sections: &[Section],
     out: &mut Vec<u8>,
-) -> Result<Status, NoMemory>
+) -> Result<(Status, Cause), NoMemory>
     requires expected { AreExpectedFrom t.now.program place sections.now }
     requires few { place + length sections.now ≤ 48 }
-    ensures { IfOk result
-        (λ status. (text : List ℕ) × Reports t.now.program place sections.now status text
+    ensures says { IfOk result
+        (λ answer. (text : List ℕ) × Reports t.now.program place sections.now answer.0 text
         × (out.new.items ≡ out.old.items ++ text)) }
+    ensures no_fault { IfOk result (λ answer. IsNoFault answer.1) }
 {
     let Some((section, others)) = sections.split_first() else {
-        return Ok(Status::Done);
+        return Ok((Status::Done, Cause::Text));
     };
     let goal = goal_of(t, place, section);
     let verdict = verdict_on(alloc, t, goal, &section.refutation)?;
@@ -36,7 +38,7 @@ pub(crate) fn push_sections(
     push_verdict(out, verdict)?;
     match verdict {
         Verdict::Accepted => push_sections(alloc, t, place + 1, others, out),
-        _ => Ok(Status::No),
+        _ => Ok((Status::No, Cause::Refused(refused(place + 1, verdict)))),
     }
 }
 
@@ -103,4 +105,20 @@ fn push_refusal(out: &mut Vec<u8>, line: u64, rule: &str) -> Result<(), NoMemory
     push_bytes(out, b" ")?;
     push_bytes(out, rule.as_bytes())?;
     push_bytes(out, b"\n")
+}
+
+// Where a section's refutation is refused.
+fn refused(section: u32, verdict: Verdict) -> Refused {
+    let (line, rule) = match verdict {
+        Verdict::BadHint(line) => (Some(line), Rule::BadHint),
+        Verdict::NotUnit(line) => (Some(line), Rule::NotUnit),
+        Verdict::NoConflict(line) => (Some(line), Rule::NoConflict),
+        Verdict::BadVariable(line) => (Some(line), Rule::BadVariable),
+        Verdict::Accepted | Verdict::NoEmpty => (None, Rule::NoEmpty),
+    };
+    Refused {
+        section: Some(section),
+        line,
+        rule,
+    }
 }

@@ -8,7 +8,7 @@ use crate::help::HELP;
 use crate::words::{Request, parse_words};
 use ql_base::{MAX_EXECUTION_BYTES, MAX_SCHEDULE_BYTES, NoMemory, push_bytes};
 use ql_ports::{Shelf, read_whole};
-use ql_reply::{Status, unread};
+use ql_reply::{Reply, Status, unread};
 use std::alloc::Global;
 
 // The greatest lengths of a run's text and of a schedule, in bytes.
@@ -22,15 +22,18 @@ pub fn outcome<S: Shelf>(
     alloc: Global,
     words: &Vec<String>,
     shelf: &mut S,
-) -> Result<(Status, Vec<u8>), NoMemory>
+) -> Result<Reply, NoMemory>
     ensures says { IfOk result
-        (λ answer. Says (word_texts words.now) (S.held shelf.old) (S.faults shelf.old)
-        (S.faults shelf.new) answer.0 answer.1.items) }
+        (λ reply. Says (word_texts words.now) (S.held shelf.old) (S.faults shelf.old)
+        (S.faults shelf.new) reply.status reply.text.items) }
     ensures same_contents { (other : List ℕ) → S.held shelf.new other ≡ S.held shelf.old other }
     ensures counts_stay { (other : List ℕ) → S.faults shelf.old other ≤ S.faults shelf.new other }
 {
     match parse_words(words) {
-        None => Ok((Status::Usage, Vec::from_slice(alloc, HELP.as_bytes())?)),
+        None => Ok(Reply::new(
+            Status::Usage,
+            Vec::from_slice(alloc, HELP.as_bytes())?,
+        )),
         Some(request) => of_request(alloc, request, shelf),
     }
 }
@@ -39,10 +42,10 @@ fn of_request<S: Shelf>(
     alloc: Global,
     request: Request,
     shelf: &mut S,
-) -> Result<(Status, Vec<u8>), NoMemory>
+) -> Result<Reply, NoMemory>
     ensures says { IfOk result
-        (λ answer. Reports (S.held shelf.old) (S.faults shelf.old) (S.faults shelf.new)
-        (asked_of request.entry) answer.0 answer.1.items) }
+        (λ reply. Reports (S.held shelf.old) (S.faults shelf.old) (S.faults shelf.new)
+        (asked_of request.entry) reply.status reply.text.items) }
     ensures same_contents { (other : List ℕ) → S.held shelf.new other ≡ S.held shelf.old other }
     ensures counts_stay { (other : List ℕ) → S.faults shelf.old other ≤ S.faults shelf.new other }
 {
@@ -58,10 +61,10 @@ fn of_run<S: Shelf>(
     request: Request,
     run: &[u8],
     shelf: &mut S,
-) -> Result<(Status, Vec<u8>), NoMemory>
+) -> Result<Reply, NoMemory>
     ensures says { IfOk result
-        (λ answer. Reports (S.held shelf.old) (S.faults shelf.old) (S.faults shelf.new)
-        (asked_of request.entry) answer.0 answer.1.items) }
+        (λ reply. Reports (S.held shelf.old) (S.faults shelf.old) (S.faults shelf.new)
+        (asked_of request.entry) reply.status reply.text.items) }
     ensures same_contents { (other : List ℕ) → S.held shelf.new other ≡ S.held shelf.old other }
     ensures counts_stay { (other : List ℕ) → S.faults shelf.old other ≤ S.faults shelf.new other }
 {
@@ -78,11 +81,11 @@ fn with_schedule<S: Shelf>(
     run: &[u8],
     name: &str,
     shelf: &mut S,
-) -> Result<(Status, Vec<u8>), NoMemory>
+) -> Result<Reply, NoMemory>
     requires { (asked_of request).schedule ≡ Some name.now }
     ensures says { IfOk result
-        (λ answer. Reports (S.held shelf.old) (S.faults shelf.old) (S.faults shelf.new)
-        (asked_of request.entry) answer.0 answer.1.items) }
+        (λ reply. Reports (S.held shelf.old) (S.faults shelf.old) (S.faults shelf.new)
+        (asked_of request.entry) reply.status reply.text.items) }
     ensures same_contents { (other : List ℕ) → S.held shelf.new other ≡ S.held shelf.old other }
     ensures counts_stay { (other : List ℕ) → S.faults shelf.old other ≤ S.faults shelf.new other }
 {
@@ -98,8 +101,8 @@ fn answer(
     request: Request,
     run: &[u8],
     schedule: Option<&[u8]>,
-) -> Result<(Status, Vec<u8>), NoMemory>
-    ensures { IfOk result (λ answer. IsAnswer answer.0 answer.1.items) }
+) -> Result<Reply, NoMemory>
+    ensures { IfOk result (λ reply. IsAnswer reply.status reply.text.items) }
 {
     let breach = joined(alloc, request.breach)?;
     let what = Drawing {
@@ -109,8 +112,8 @@ fn answer(
         all: request.all,
     };
     match drawing_text(alloc, what) {
-        Ok(text) => Ok((Status::Done, text)),
-        Err(fault) => Ok((Status::Bad, fault_text(alloc, fault)?)),
+        Ok(text) => Ok(Reply::new(Status::Done, text)),
+        Err(fault) => Ok(Reply::new(Status::Bad, fault_text(alloc, fault)?)),
     }
 }
 

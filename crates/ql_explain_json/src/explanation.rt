@@ -9,7 +9,7 @@ use ql_base::NoMemory;
 use ql_classify::Finding;
 use ql_commands::{bad_source, read_source};
 use ql_explanation::{answer_of, finding_at, findings};
-use ql_reply::Status;
+use ql_reply::Reply;
 use ql_typing::Typed;
 use ql_warnings::Lexed;
 use serde_json::{Map, Value as Json, put};
@@ -17,19 +17,19 @@ use std::alloc::Global;
 
 /// What is found of each target of a source, as one JSON object on a line. The answer is yes where each has a level and no
 /// transaction uses a strong operation.
-pub fn explain_json(alloc: Global, source: &[u8]) -> Result<(Status, Vec<u8>), NoMemory>
+pub fn explain_json(alloc: Global, source: &[u8]) -> Result<Reply, NoMemory>
     requires { length source.now < 2 ^ 32 }
-    ensures { IfOk result (λ answer. ExplainJsonSays source.now answer.0 answer.1.items) }
+    ensures { IfOk result (λ reply. ExplainJsonSays source.now reply.status reply.text.items) }
 {
     let typed = match read_source(alloc, source) {
         Ok(typed) => typed,
-        Err(fault) => return Ok((Status::Bad, bad_source(alloc, fault)?)),
+        Err(fault) => return bad_source(alloc, fault),
     };
     let findings = findings(alloc, &typed)?;
     let lexed = Lexed::of(alloc, source)?;
     let targets = targets(alloc, &lexed, &typed, &findings)?;
     let text = line(alloc, targets)?;
-    Ok((answer_of(&typed, &findings), text))
+    Ok(Reply::new(answer_of(&typed, &findings), text))
 }
 
 // The values of all targets.

@@ -10,25 +10,25 @@ use crate::uses::uses_of;
 use ql_base::{NoMemory, push_bytes};
 use ql_classify::Finding;
 use ql_commands::{bad_source, read_source};
-use ql_reply::Status;
+use ql_reply::Reply;
 use ql_typing::Typed;
 use ql_warnings::{Lexed, warnings};
 use std::alloc::Global;
 
 /// What is found of each target of a source, with a countermodel unless the lowest level is enough. The answer is yes where
 /// each has a level and no transaction uses a strong operation.
-pub fn explain(alloc: Global, source: &[u8]) -> Result<(Status, Vec<u8>), NoMemory>
+pub fn explain(alloc: Global, source: &[u8]) -> Result<Reply, NoMemory>
     requires { length source.now < 2 ^ 32 }
-    ensures { IfOk result (λ answer. ExplainSays source.now answer.0 answer.1.items) }
+    ensures { IfOk result (λ reply. ExplainSays source.now reply.status reply.text.items) }
 {
     let typed = match read_source(alloc, source) {
         Ok(typed) => typed,
-        Err(fault) => return Ok((Status::Bad, bad_source(alloc, fault)?)),
+        Err(fault) => return bad_source(alloc, fault),
     };
     let findings = findings(alloc, &typed)?;
     let lexed = Lexed::of(alloc, source)?;
     let text = sections_of(alloc, &lexed, &typed, &findings)?;
-    Ok((answer_of(&typed, &findings), text))
+    Ok(Reply::new(answer_of(&typed, &findings), text))
 }
 
 // The sections of all targets, with a blank line between them.

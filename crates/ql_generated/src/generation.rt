@@ -4,7 +4,7 @@ ghost use Rattle.ql_generated.specs.Schedules.{GenSays};
 use ql_base::NoMemory;
 use ql_commands::{bad_source, read_source};
 use ql_gen::schedule_of;
-use ql_reply::Status;
+use ql_reply::{Reply, Status};
 use ql_schedule::print_schedule;
 use std::alloc::Global;
 
@@ -14,16 +14,19 @@ pub fn generate(
     source: &[u8],
     number: u32,
     events: u32,
-) -> Result<(Status, Vec<u8>), NoMemory>
+) -> Result<Reply, NoMemory>
     requires source { length source.now < 2 ^ 32 }
     requires number { number < 2 ^ 31 }
     requires few { events ≤ 4000 }
-    ensures { IfOk result (λ answer. GenSays source.now number events answer.0 answer.1.items) }
+    ensures { IfOk result (λ reply. GenSays source.now number events reply.status reply.text.items) }
 {
     let typed = match read_source(alloc, source) {
         Ok(typed) => typed,
-        Err(fault) => return Ok((Status::Bad, bad_source(alloc, fault)?)),
+        Err(fault) => return bad_source(alloc, fault),
     };
     let schedule = schedule_of(alloc, &typed, number, events)?;
-    Ok((Status::Done, print_schedule(alloc, &typed, &schedule)?))
+    Ok(Reply::new(
+        Status::Done,
+        print_schedule(alloc, &typed, &schedule)?,
+    ))
 }

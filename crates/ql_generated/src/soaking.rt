@@ -8,28 +8,28 @@ use ql_base::NoMemory;
 use ql_commands::{bad_source, read_source, refusal};
 use ql_gen::schedule_of;
 use ql_levels::Levels;
-use ql_reply::Status;
+use ql_reply::{Reply, Status};
 use ql_running::sound_run;
 use ql_typing::Typed;
 use std::alloc::Global;
 
 /// The summary of the run of 4000 generated events, through a store of a source's program at the least levels; or what is
 /// wrong first: a fault of the source, or why the program has no such levels.
-pub fn soak(alloc: Global, source: &[u8], number: u32) -> Result<(Status, Vec<u8>), NoMemory>
+pub fn soak(alloc: Global, source: &[u8], number: u32) -> Result<Reply, NoMemory>
     requires source { length source.now < 2 ^ 32 }
     requires number { number < 2 ^ 31 }
-    ensures { IfOk result (λ answer. SoakSays source.now number answer.0 answer.1.items) }
+    ensures { IfOk result (λ reply. SoakSays source.now number reply.status reply.text.items) }
 {
     let typed = match read_source(alloc, source) {
         Ok(typed) => typed,
-        Err(fault) => return Ok((Status::Bad, bad_source(alloc, fault)?)),
+        Err(fault) => return bad_source(alloc, fault),
     };
     match ql_classify::classify(alloc, &typed) {
-        Ok(classified) => Ok((
+        Ok(classified) => Ok(Reply::new(
             Status::Done,
             summary_of_run(alloc, &typed, classified.levels(), number)?,
         )),
-        Err(why) => Ok((Status::No, refusal(alloc, &typed, why)?)),
+        Err(why) => refusal(alloc, &typed, why),
     }
 }
 

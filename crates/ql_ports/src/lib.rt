@@ -14,5 +14,5 @@ mod whole;
 pub use mem_shelf::MemShelf;
 pub use mem_sink::MemSink;
 pub use ports::{Failed, Shelf, Sink};
-pub use system::{FileShelf, StdSink};
+pub use system::{FileShelf, ReadFailure, StdSink};
 pub use whole::{ReadWhy, read_whole, write_whole};

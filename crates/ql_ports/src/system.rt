@@ -17,6 +17,14 @@ pub struct FileShelf<R: Files + Drop> {
     alloc: Global,
     open: Option<OpenFile<R::File>>,
     faults: u64,
+    failure: Option<ReadFailure>,
+}
+
+/// Why the system didn't read a file, and its name.
+#[derive(Drop)]
+pub struct ReadFailure {
+    pub name: String,
+    pub error: io::Error,
 }
 
 // An open file, and the offset of the byte that its next read returns.
@@ -37,7 +45,13 @@ impl<R: Files + Drop> FileShelf<R> {
             alloc,
             open: None,
             faults: 0,
+            failure: None,
         }
+    }
+
+    /// What the last fetch met that failed; none where there was no memory for the name.
+    pub fn failure(&self) -> Option<&ReadFailure> {
+        self.failure.as_ref()
     }
 
     fn open_at(&self, name: &str, at: u64) -> io::Result<OpenFile<R::File>> {
@@ -103,11 +117,19 @@ impl<R: Files + Drop> Shelf for FileShelf<R> {
         }
         match self.read(name, at, into) {
             Ok(count) => Ok(count),
-            Err(_) => {
+            Err(error) => {
                 self.faults = next_count(self.faults);
+                self.failure = failure(self.alloc, name, error);
                 Err(Failed)
             }
         }
+    }
+}
+
+fn failure(alloc: Global, name: &str, error: io::Error) -> Option<ReadFailure> {
+    match String::from_str(alloc, name) {
+        Ok(name) => Some(ReadFailure { name, error }),
+        Err(_) => None,
     }
 }
 

@@ -1,12 +1,12 @@
 -- What follows of a reply, case by case.
 use Rattle.std.proofs.Common.{◌≡◌, inl, inr, ℕ, ◌≤◌, List, ◌++◌, Option, Result, Ok, Err, codes, arith, refl, subst, sym}
 use Rattle.std.specs.Prelude.{IfOk}
-use Rattle.std.specs.Global.{Vec}
 use Rattle.ql_base.specs.declared.no_memory.NoMemory.{NoMemory}
 use Rattle.ql_ports.specs.Faults.{Rose}
 use Rattle.ql_ports.specs.Written.{appended}
 use Rattle.ql_ports.specs.declared.whole.ReadWhy.{ReadWhy}
 use Rattle.ql_ports.specs.declared.whole.ReadWhy.TheVariants.{Failed, TooLong, NoMemory as NoReadMemory}
+use Rattle.ql_reply.specs.declared.reply.Reply.{Reply}
 use Rattle.ql_reply.specs.Unread.{IsUnread}
 use Rattle.ql_reply.specs.Wrote.{IsWritten, Wrote}
 use Rattle.ql_reply.specs.declared.status.Status.{Status}
@@ -84,10 +84,10 @@ of_unread P name NoReadMemory Usage text is failed long = absurd is
 of_unread P name NoReadMemory TooLarge text is failed long = absurd is
 
 -- and so of an answer, which out of memory isn't there
-pub answer_unread : (P : Status → List ℕ → Type 0) (name : List ℕ) (error : ReadWhy) (answer : Result (Status × Vec ℕ) NoMemory)
-    → IfOk answer (λ x. IsUnread error name x.0 x.1.items)
+pub answer_unread : (P : Status → List ℕ → Type 0) (name : List ℕ) (error : ReadWhy) (answer : Result Reply NoMemory)
+    → IfOk answer (λ x. IsUnread error name x.status x.text.items)
     → ((text : List ℕ) → error ≡ Failed → text ≡ codes "read fault " ++ name ++ codes "\n" → P ReadFault text)
     → ((text : List ℕ) → error ≡ TooLong → text ≡ codes "too large " ++ name ++ codes "\n" → P TooLarge text)
-    → IfOk answer (λ x. P x.0 x.1.items)
-answer_unread P name error (Ok x) is failed long = of_unread P name error x.0 x.1.items is (failed x.1.items) (long x.1.items)
+    → IfOk answer (λ x. P x.status x.text.items)
+answer_unread P name error (Ok x) is failed long = of_unread P name error x.status x.text.items is (failed x.text.items) (long x.text.items)
 answer_unread P name error (Err e) is failed long = tt

@@ -1,4 +1,5 @@
 pub mod Arguments
+pub mod Causes
 pub mod Lines
 pub mod Read
 pub mod Statuses

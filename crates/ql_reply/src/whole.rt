@@ -1,18 +1,19 @@
 ghost use Rattle.std.specs.Prelude.{◌≡◌, ◌++◌, IfOk, codes};
 ghost use Rattle.ql_reply.specs.Unread.{IsUnread};
 
+use crate::reply::Reply;
 use crate::status::Status;
 use ql_base::{NoMemory, push_bytes};
 use ql_ports::ReadWhy;
 use std::alloc::Global;
 
 /// The reply if the file with this name couldn't be read whole.
-pub fn unread(alloc: Global, error: ReadWhy, name: &str) -> Result<(Status, Vec<u8>), NoMemory>
-    ensures { IfOk result (λ answer. IsUnread error name.now answer.0 answer.1.items) }
+pub fn unread(alloc: Global, error: ReadWhy, name: &str) -> Result<Reply, NoMemory>
+    ensures { IfOk result (λ answer. IsUnread error name.now answer.status answer.text.items) }
 {
     match error {
-        ReadWhy::Failed => Ok((Status::ReadFault, named(alloc, b"read fault ", name)?)),
-        ReadWhy::TooLong => Ok((Status::TooLarge, named(alloc, b"too large ", name)?)),
+        ReadWhy::Failed => Ok(Reply::new(Status::ReadFault, named(alloc, b"read fault ", name)?)),
+        ReadWhy::TooLong => Ok(Reply::new(Status::TooLarge, named(alloc, b"too large ", name)?)),
         ReadWhy::NoMemory => Err(NoMemory),
     }
 }

@@ -10,7 +10,7 @@ ghost use Rattle.ql_restart.specs.Restarts.{RestartSays, ReportsRestart};
 use crate::recovered::print_recovered;
 use ql_base::{NoMemory, ReplicaId, push_bytes, push_number};
 use ql_replica::Replica;
-use ql_reply::Status;
+use ql_reply::{Reply, Status};
 use ql_running::{RunInput, read_run_input};
 use ql_watched::watched_run;
 use std::alloc::Global;
@@ -24,10 +24,10 @@ pub fn restart_run(
     schedule: &[u8],
     replica: u32,
     cut: u64,
-) -> Result<(Status, Vec<u8>), NoMemory>
+) -> Result<Reply, NoMemory>
     requires { length source.now < 2 ^ 32 }
     ensures { IfOk result
-        (λ answer. RestartSays source.now schedule.now replica cut answer.0 answer.1.items) }
+        (λ reply. RestartSays source.now schedule.now replica cut reply.status reply.text.items) }
 {
     let input = match read_run_input(alloc, source, schedule)? {
         Ok(input) => input,
@@ -35,10 +35,10 @@ pub fn restart_run(
     };
     let replicas = input.schedule.last_replicas();
     if replica >= replicas {
-        return Ok((Status::No, no_replica(alloc, replica)?));
+        return Ok(Reply::new(Status::No, no_replica(alloc, replica)?));
     }
     let text = text_of(alloc, input, ReplicaId(replica), cut)?;
-    Ok((Status::Done, text))
+    Ok(Reply::new(Status::Done, text))
 }
 
 // The text for a replica.

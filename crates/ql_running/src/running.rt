@@ -16,8 +16,7 @@ use crate::store_run::sound_run;
 use ql_base::{Names, NoMemory};
 use ql_exec::Execution;
 use ql_levels::Levels;
-use ql_machine::Reply;
-use ql_reply::Status;
+use ql_reply::{Reply, Status};
 use ql_run_json::json_run;
 use ql_run_text::print_run;
 use ql_typing::Typed;
@@ -30,13 +29,13 @@ pub fn run(
     form: Form,
     source: &[u8],
     schedule: &[u8],
-) -> Result<(Status, Vec<u8>), NoMemory>
+) -> Result<Reply, NoMemory>
     requires { length source.now < 2 ^ 32 }
     ensures { IfOk result
-        (λ answer. RunSays (format_of form) source.now schedule.now answer.0 answer.1.items) }
+        (λ reply. RunSays (format_of form) source.now schedule.now reply.status reply.text.items) }
 {
     match read_run_input(alloc, source, schedule)? {
-        Ok(input) => Ok((Status::Done, text_of(alloc, form, input)?)),
+        Ok(input) => Ok(Reply::new(Status::Done, text_of(alloc, form, input)?)),
         Err(reply) => Ok(reply),
     }
 }
@@ -73,7 +72,7 @@ fn print_in(
     t: &Typed,
     objects: &Names,
     levels: &Levels,
-    replies: &Vec<Reply>,
+    replies: &Vec<ql_machine::Reply>,
     x: &Execution,
 ) -> Result<Vec<u8>, NoMemory>
     requires ops { length levels.now.ops ≡ length (all_ops t.now.program.types) }

@@ -1,25 +1,28 @@
 ghost use Rattle.std.specs.Prelude.{◌<◌, ◌^◌, length, IfOk};
 ghost use Rattle.ql_why.specs.Why.{WhySays};
 
-use crate::refusal::refusal_with_reason;
+use crate::refusal::refused_with_reason;
 use crate::targets::levels_with_reasons;
 use ql_base::NoMemory;
 use ql_commands::{bad_source, read_source};
-use ql_reply::Status;
+use ql_reply::{Reply, Status};
 use std::alloc::Global;
 
 /// The least levels of a source's operations and transactions, or what fails first. After each target's line stands a
 /// countermodel for each lower level; where no level is enough for a target, one for the highest ends the text.
-pub fn classify_with_reasons(alloc: Global, source: &[u8]) -> Result<(Status, Vec<u8>), NoMemory>
+pub fn classify_with_reasons(alloc: Global, source: &[u8]) -> Result<Reply, NoMemory>
     requires { length source.now < 2 ^ 32 }
-    ensures { IfOk result (λ answer. WhySays source.now answer.0 answer.1.items) }
+    ensures { IfOk result (λ reply. WhySays source.now reply.status reply.text.items) }
 {
     let typed = match read_source(alloc, source) {
         Ok(typed) => typed,
-        Err(fault) => return Ok((Status::Bad, bad_source(alloc, fault)?)),
+        Err(fault) => return bad_source(alloc, fault),
     };
     match ql_classify::classify(alloc, &typed) {
-        Ok(classified) => Ok((Status::Done, levels_with_reasons(alloc, &classified)?)),
-        Err(why) => Ok((Status::No, refusal_with_reason(alloc, &typed, why)?)),
+        Ok(classified) => Ok(Reply::new(
+            Status::Done,
+            levels_with_reasons(alloc, &classified)?,
+        )),
+        Err(why) => refused_with_reason(alloc, &typed, why),
     }
 }

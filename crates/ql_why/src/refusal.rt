@@ -1,6 +1,7 @@
 ghost use Rattle.std.specs.Prelude.{◌≡◌, ◌≢◌, ◌++◌, List, ℕ, IfOk, OnOk};
 ghost use Rattle.ql_classify.specs.Outcome.{IsRefusal, all_tests};
 ghost use Rattle.ql_commands.specs.Levels.{refusal_text};
+ghost use Rattle.ql_reply.specs.declared.status.Status.TheVariants.{No};
 ghost use Rattle.ql_why.specs.Why.{IsTopText};
 
 use crate::counter_text::push_countermodel;
@@ -8,26 +9,36 @@ use crate::goals::highest;
 use ql_base::{NoMemory, push_bytes};
 use ql_classify::Classless;
 use ql_commands::refusal;
+use ql_reply::Reply;
 use ql_typing::Typed;
 use std::alloc::Global;
 
-/// The text that says why a program isn't accepted. Where no level is enough for a target, a countermodel of the highest
+/// The answer that says why a program isn't accepted. Where no level is enough for a target, a countermodel of the highest
 /// ends it.
-pub(crate) fn refusal_with_reason(
+pub(crate) fn refused_with_reason(
     alloc: Global,
     t: &Typed,
     why: Classless,
-) -> Result<Vec<u8>, NoMemory>
+) -> Result<Reply, NoMemory>
     requires { IsRefusal t.now.program (all_tests t.now.program) why }
     ensures known { OnOk result (why ≢ Classless.NoMemory) }
+    ensures status { IfOk result (λ reply. reply.status ≡ No) }
     ensures text { IfOk result
-        (λ text. (reason : List ℕ) × IsTopText t.now.program why reason
-        × (text.items ≡ refusal_text t.now.program why ++ reason)) }
+        (λ reply. (reason : List ℕ) × IsTopText t.now.program why reason
+        × (reply.text.items ≡ refusal_text t.now.program why ++ reason)) }
 {
     let reason = reason(alloc, t, &why)?;
-    let mut text = refusal(alloc, t, why)?;
+    let Reply {
+        status,
+        mut text,
+        cause,
+    } = refusal(alloc, t, why)?;
     push_bytes(&mut text, &reason)?;
-    Ok(text)
+    Ok(Reply {
+        status,
+        text,
+        cause,
+    })
 }
 
 // The countermodel of the highest level, where it isn't enough.
