@@ -1,5 +1,6 @@
 ghost use Rattle.std.specs.Prelude.{◌≡◌, ◌≤◌, ◌<◌, ◌++◌, ◌^◌, IfOk, OnOk, codes, length, map};
 ghost use Rattle.ql_holds_files.specs.Holdings.{asked_of};
+ghost use Rattle.ql_reply.specs.declared.status.Status.TheVariants.{Bad};
 ghost use Rattle.ql_app.specs.HoldsFaults.{IsReportedAs};
 ghost use Rattle.ql_app.specs.HoldsFile.{HoldsSays, HoldsReports, named_places_text};
 
@@ -7,52 +8,57 @@ use crate::text::at_line;
 use ql_base::{EffId, MAX_WORK, NoMemory, Word, push_bytes, push_number};
 use ql_formula::{Relations, holds_at};
 use ql_holds_files::{Holding, HoldsFault, parse_holds};
-use ql_reply::{Status, bad_line};
+use ql_reply::{Cause, Part, Reply, Rule, Status};
 use std::alloc::Global;
 
 /// Whether the contract in a holds file is true of its effect.
-pub fn holds(alloc: Global, bytes: &[u8]) -> Result<(Status, Vec<u8>), NoMemory>
+pub fn holds(alloc: Global, bytes: &[u8]) -> Result<Reply, NoMemory>
     requires { length bytes.now < 2 ^ 32 }
-    ensures { IfOk result (λ answer. HoldsSays bytes.now answer.0 answer.1.items) }
+    ensures { IfOk result (λ reply. HoldsSays bytes.now reply.status reply.text.items) }
 {
     ql_holds_files::one_holding();
     ql_holds_grammar::holds_files_are_read();
     ql_holds_grammar::first_faults_are_of_the_grammar();
     match parse_holds(alloc, bytes) {
         Ok(holding) => truth_of(alloc, &holding),
-        Err(fault) => Ok((Status::Bad, bad_holds(alloc, fault)?)),
+        Err(fault) => bad_holds(alloc, fault),
     }
 }
 
-// The line that reports a file's first fault.
-fn bad_holds(alloc: Global, fault: HoldsFault) -> Result<Vec<u8>, NoMemory>
-    ensures { IfOk result (λ line. IsReportedAs fault line.items) }
+// The answer on a file with a fault.
+fn bad_holds(alloc: Global, fault: HoldsFault) -> Result<Reply, NoMemory>
+    ensures status { IfOk result (λ reply. reply.status ≡ Bad) }
+    ensures text { IfOk result (λ reply. IsReportedAs fault reply.text.items) }
 {
     match fault {
-        HoldsFault::Unexpected(line) => bad_line(alloc, "holds", line, "Unexpected"),
-        HoldsFault::Unknown(line) => bad_line(alloc, "holds", line, "Unknown"),
-        HoldsFault::Twice(line) => bad_line(alloc, "holds", line, "Twice"),
-        HoldsFault::TxnAtom(line) => bad_line(alloc, "holds", line, "TxnAtom"),
-        HoldsFault::Variables(line) => bad_line(alloc, "holds", line, "Variables"),
-        HoldsFault::Range(line) => bad_line(alloc, "holds", line, "Range"),
-        HoldsFault::NotForward(line) => bad_line(alloc, "holds", line, "NotForward"),
-        HoldsFault::OtherObject(line) => bad_line(alloc, "holds", line, "OtherObject"),
-        HoldsFault::TooMany(line) => bad_line(alloc, "holds", line, "TooMany"),
+        HoldsFault::Unexpected(line) => Reply::bad(alloc, Part::Holds, line, Rule::Unexpected),
+        HoldsFault::Unknown(line) => Reply::bad(alloc, Part::Holds, line, Rule::Unknown),
+        HoldsFault::Twice(line) => Reply::bad(alloc, Part::Holds, line, Rule::Twice),
+        HoldsFault::TxnAtom(line) => Reply::bad(alloc, Part::Holds, line, Rule::TxnAtom),
+        HoldsFault::Variables(line) => Reply::bad(alloc, Part::Holds, line, Rule::Variables),
+        HoldsFault::Range(line) => Reply::bad(alloc, Part::Holds, line, Rule::Range),
+        HoldsFault::NotForward(line) => Reply::bad(alloc, Part::Holds, line, Rule::NotForward),
+        HoldsFault::OtherObject(line) => Reply::bad(alloc, Part::Holds, line, Rule::OtherObject),
+        HoldsFault::TooMany(line) => Reply::bad(alloc, Part::Holds, line, Rule::TooMany),
         HoldsFault::NoMemory => Err(NoMemory),
     }
 }
 
 // Whether a formula is true, where that isn't too much work.
 #[tactic(auto, using(crate::proofs::Powers::power_small))]
-fn truth_of(alloc: Global, holding: &Holding) -> Result<(Status, Vec<u8>), NoMemory>
+fn truth_of(alloc: Global, holding: &Holding) -> Result<Reply, NoMemory>
     requires few { length holding.now.formula.vars ≤ 5 }
     requires few_effects { length holding.now.execution ≤ 4000 }
-    ensures { IfOk result (λ answer. HoldsReports (asked_of holding.now) answer.0 answer.1.items) }
+    ensures { IfOk result (λ reply. HoldsReports (asked_of holding.now) reply.status reply.text.items) }
 {
     let variables = holding.formula.vars.items().len() as u32;
     let work = u64::from(holding.execution.len()).pow(variables);
     if u128::from(work) > MAX_WORK {
-        return Ok((Status::TooLarge, at_line(alloc, b"too much ", work, b"\n")?));
+        return Ok(Reply {
+            status: Status::TooLarge,
+            text: at_line(alloc, b"too much ", work, b"\n")?,
+            cause: Cause::TooMuch,
+        });
     }
     let relations = Relations::build(alloc, &holding.execution)?;
     match holds_at(
@@ -61,11 +67,16 @@ fn truth_of(alloc: Global, holding: &Holding) -> Result<(Status, Vec<u8>), NoMem
         &relations,
         holding.cur,
     ) {
-        None => Ok((Status::Done, Vec::from_slice(alloc, b"holds\n")?)),
-        Some(places) => {
-            let line = fails_line(alloc, holding.names.items(), places.items())?;
-            Ok((Status::No, line))
-        }
+        None => Ok(Reply {
+            status: Status::Done,
+            text: Vec::from_slice(alloc, b"holds\n")?,
+            cause: Cause::Holds,
+        }),
+        Some(places) => Ok(Reply {
+            status: Status::No,
+            text: fails_line(alloc, holding.names.items(), places.items())?,
+            cause: Cause::FailsAt(u64::from(holding.cur.0)),
+        }),
     }
 }
 

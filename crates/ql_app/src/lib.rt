@@ -17,5 +17,5 @@ pub use laws::{
     what_is_printed_is_accepted,
 };
 pub use outcome::Limits;
-pub use program::quelea;
+pub use program::{carry_out, quelea};
 pub use ql_reply::Status;

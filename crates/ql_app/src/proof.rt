@@ -1,31 +1,37 @@
 ghost use Rattle.std.specs.Prelude.{◌≡◌, ◌<◌, ◌^◌, IfOk, length};
 ghost use Rattle.std.specs.Option.{option_map};
-ghost use Rattle.ql_app.specs.ProofFile.{ProofSays, ProofReports, refusal_of};
+ghost use Rattle.ql_reply.specs.declared.status.Status.TheVariants.{Bad};
+ghost use Rattle.ql_app.specs.ProofFile.{ProofSays, ProofReports, proof_fault_text, refusal_of};
 
 use crate::text::at_line;
 use ql_base::NoMemory;
 use ql_cert::{CertFault, parse_proof};
 use ql_cnf::Clauses;
+use ql_commands::refused;
 use ql_refute::{Refutation, Verdict, check};
-use ql_reply::{Status, bad_line};
+use ql_reply::{Cause, Part, Reply, Rule, Status};
 use std::alloc::Global;
 
 /// Whether the refutation in a proof file shows that no assignment satisfies its clauses.
-pub fn check_proof(alloc: Global, bytes: &[u8]) -> Result<(Status, Vec<u8>), NoMemory>
+pub fn check_proof(alloc: Global, bytes: &[u8]) -> Result<Reply, NoMemory>
     requires short { length bytes.now < 2 ^ 32 }
-    ensures { IfOk result (λ answer. ProofSays bytes.now answer.0 answer.1.items) }
+    ensures { IfOk result (λ reply. ProofSays bytes.now reply.status reply.text.items) }
 {
     match parse_proof(alloc, bytes) {
         Ok((clauses, refutation)) => verdict_on(alloc, &clauses, &refutation),
-        Err(CertFault::Unexpected(line)) => Ok((
-            Status::Bad,
-            bad_line(alloc, "proof", line, "Unexpected")?,
-        )),
-        Err(CertFault::Number(line)) => Ok((
-            Status::Bad,
-            bad_line(alloc, "proof", line, "Number")?,
-        )),
-        Err(CertFault::NoMemory) => Err(NoMemory),
+        Err(fault) => bad_proof(alloc, fault),
+    }
+}
+
+// The answer on a file with a fault.
+fn bad_proof(alloc: Global, fault: CertFault) -> Result<Reply, NoMemory>
+    ensures status { IfOk result (λ reply. reply.status ≡ Bad) }
+    ensures text { IfOk result (λ reply. reply.text.items ≡ proof_fault_text fault) }
+{
+    match fault {
+        CertFault::Unexpected(line) => Reply::bad(alloc, Part::Proof, line, Rule::Unexpected),
+        CertFault::Number(line) => Reply::bad(alloc, Part::Proof, line, Rule::Number),
+        CertFault::NoMemory => Err(NoMemory),
     }
 }
 
@@ -34,14 +40,23 @@ fn verdict_on(
     alloc: Global,
     clauses: &Clauses,
     refutation: &Refutation,
-) -> Result<(Status, Vec<u8>), NoMemory>
+) -> Result<Reply, NoMemory>
     ensures { IfOk result
-        (λ answer. ProofReports clauses.now refutation.now.lines answer.0 answer.1.items) }
+        (λ reply. ProofReports clauses.now refutation.now.lines reply.status
+        reply.text.items) }
 {
     let mut marks = vec![in alloc; 0; clauses.variables() as usize + 1]?;
-    match refusal(alloc, check(clauses, refutation, marks.as_mut_slice()))? {
-        None => Ok((Status::Done, Vec::from_slice(alloc, b"accepted\n")?)),
-        Some(line) => Ok((Status::No, line)),
+    let verdict = check(clauses, refutation, marks.as_mut_slice());
+    match refusal(alloc, verdict)? {
+        None => Ok(Reply::new(
+            Status::Done,
+            Vec::from_slice(alloc, b"accepted\n")?,
+        )),
+        Some(text) => Ok(Reply {
+            status: Status::No,
+            text,
+            cause: Cause::Refused(refused(None, verdict)),
+        }),
     }
 }
 

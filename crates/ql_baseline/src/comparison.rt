@@ -12,7 +12,7 @@ use ql_classify::Finding;
 use ql_commands::{bad_source, read_source};
 use ql_explanation::{finding_at, findings, goal_of};
 use ql_line_files::{FileFault, read_file};
-use ql_reply::{Fault, Part, Reply, Rule, Status};
+use ql_reply::{Part, Reply, Rule, Status};
 use ql_typing::Typed;
 use std::alloc::Global;
 
@@ -28,14 +28,9 @@ pub fn compare(alloc: Global, source: &[u8], baseline: &[u8]) -> Result<Reply, N
     };
     match read_file(&Format { alloc }, baseline) {
         Ok(stored) => against(alloc, &typed, stored.items()),
-        Err(FileFault::Broken(fault)) => Reply::bad(
-            alloc,
-            Fault {
-                part: Part::Baseline,
-                at: fault.line,
-                rule: Rule::Unexpected,
-            },
-        ),
+        Err(FileFault::Broken(fault)) => {
+            Reply::bad(alloc, Part::Baseline, fault.line, Rule::Unexpected)
+        }
         Err(FileFault::NoMemory) => Err(NoMemory),
     }
 }

@@ -4,7 +4,7 @@ ghost use Rattle.ql_commands.specs.Check.{cert_fault_text};
 
 use ql_base::NoMemory;
 use ql_cert::CertFault;
-use ql_reply::{Fault, Part, Reply, Rule};
+use ql_reply::{Part, Reply, Rule};
 use std::alloc::Global;
 
 /// The answer on a certificate with a fault.
@@ -12,17 +12,9 @@ pub(crate) fn bad_certificate(alloc: Global, fault: CertFault) -> Result<Reply, 
     ensures status { IfOk result (λ reply. reply.status ≡ Bad) }
     ensures text { IfOk result (λ reply. cert_fault_text fault ≡ Some reply.text.items) }
 {
-    let (at, rule) = match fault {
-        CertFault::Unexpected(line) => (line, Rule::Unexpected),
-        CertFault::Number(line) => (line, Rule::Number),
-        CertFault::NoMemory => return Err(NoMemory),
-    };
-    Reply::bad(
-        alloc,
-        Fault {
-            part: Part::Certificate,
-            at,
-            rule,
-        },
-    )
+    match fault {
+        CertFault::Unexpected(line) => Reply::bad(alloc, Part::Certificate, line, Rule::Unexpected),
+        CertFault::Number(line) => Reply::bad(alloc, Part::Certificate, line, Rule::Number),
+        CertFault::NoMemory => Err(NoMemory),
+    }
 }

@@ -37,8 +37,8 @@ pub fn refusal(alloc: Global, t: &Typed, why: Classless) -> Result<Reply, NoMemo
     })
 }
 
-/// What a program's refusal is about.
-pub fn cause_of(t: &Typed, why: &Classless) -> Cause
+// What a program's refusal is about.
+fn cause_of(t: &Typed, why: &Classless) -> Cause
     ensures { IsNoFault result }
 {
     match why {

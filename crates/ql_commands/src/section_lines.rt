@@ -5,12 +5,13 @@ ghost use Rattle.ql_reply.specs.Causes.{IsNoFault};
 ghost use Rattle.ql_commands.specs.Check.{Reports, goal_of, refusal_end, section_text, target_of, expected_targets, verdict_text};
 ghost use Rattle.ql_commands.specs.Judging.{AreExpectedFrom, IsVerdictOn};
 
+use crate::refused::refused;
 use ql_base::{DeclId, NoMemory, OpId, push_bytes, push_number};
 use ql_cert::{Section, SectionLevel};
 use ql_ground::{Goal, problem};
 use ql_levels::{level_word, txn_word};
 use ql_refute::{Refutation, Verdict, check};
-use ql_reply::{Cause, Refused, Rule, Status};
+use ql_reply::{Cause, Status};
 use ql_typing::Typed;
 use std::alloc::Global;
 
@@ -38,7 +39,7 @@ pub(crate) fn push_sections(
     push_verdict(out, verdict)?;
     match verdict {
         Verdict::Accepted => push_sections(alloc, t, place + 1, others, out),
-        _ => Ok((Status::No, Cause::Refused(refused(place + 1, verdict)))),
+        _ => Ok((Status::No, Cause::Refused(refused(Some(place + 1), verdict)))),
     }
 }
 
@@ -105,20 +106,4 @@ fn push_refusal(out: &mut Vec<u8>, line: u64, rule: &str) -> Result<(), NoMemory
     push_bytes(out, b" ")?;
     push_bytes(out, rule.as_bytes())?;
     push_bytes(out, b"\n")
-}
-
-// Where a section's refutation is refused.
-fn refused(section: u32, verdict: Verdict) -> Refused {
-    let (line, rule) = match verdict {
-        Verdict::BadHint(line) => (Some(line), Rule::BadHint),
-        Verdict::NotUnit(line) => (Some(line), Rule::NotUnit),
-        Verdict::NoConflict(line) => (Some(line), Rule::NoConflict),
-        Verdict::BadVariable(line) => (Some(line), Rule::BadVariable),
-        Verdict::Accepted | Verdict::NoEmpty => (None, Rule::NoEmpty),
-    };
-    Refused {
-        section: Some(section),
-        line,
-        rule,
-    }
 }

@@ -8,7 +8,7 @@ ghost use Rattle.ql_reply.specs.declared.status.Status.TheVariants.{Bad};
 use ql_base::NoMemory;
 use ql_lex::LexFault;
 use ql_parse::ParseFault;
-use ql_reply::{Fault, Part, Reply, Rule};
+use ql_reply::{Part, Reply, Rule};
 use ql_typing::TypeFault;
 use std::alloc::Global;
 
@@ -26,17 +26,10 @@ pub fn bad_source(alloc: Global, fault: SourceFault) -> Result<Reply, NoMemory>
     ensures status { IfOk result (λ reply. reply.status ≡ Bad) }
     ensures text { IfOk result (λ reply. source_fault_text fault ≡ Some reply.text.items) }
 {
-    let Some((at, rule)) = place_and_rule(fault) else {
-        return Err(NoMemory);
-    };
-    Reply::bad(
-        alloc,
-        Fault {
-            part: Part::Source,
-            at: u64::from(at),
-            rule,
-        },
-    )
+    match place_and_rule(fault) {
+        Some((at, rule)) => Reply::bad(alloc, Part::Source, u64::from(at), rule),
+        None => Err(NoMemory),
+    }
 }
 
 // The offset of a fault and its rule; none where memory ran out.

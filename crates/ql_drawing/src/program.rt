@@ -30,6 +30,6 @@ pub fn draw<S: Shelf, K: Sink>(
     ensures counts_stay { (other : List ℕ) → S.faults shelf.old other ≤ S.faults shelf.new other }
     ensures sink_count_stays { K.faults sink.old ≤ K.faults sink.new }
 {
-    let (status, text) = outcome(alloc, words, shelf)?;
-    Ok(write_reply(sink, status, &text))
+    let reply = outcome(alloc, words, shelf)?;
+    Ok(write_reply(sink, reply.status, &reply.text))
 }

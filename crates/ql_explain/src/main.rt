@@ -9,7 +9,7 @@ mod program;
 mod request;
 
 use crate::program::explain_words;
-use ql_notes::{KeptSink, write_notes};
+use ql_notes::write_notes;
 use ql_ports::{FileShelf, StdSink};
 use ql_reply::{arguments, exit_number};
 use std::io;
@@ -25,14 +25,16 @@ fn main(rt: HostRuntime) -> ExitCode {
 // Explains what the arguments name, and returns the exit status.
 fn run(rt: HostRuntime, words: &Vec<String>) -> u8 {
     let mut shelf = FileShelf::new(rt.alloc(), rt);
-    let mut sink = KeptSink::over(StdSink::new(rt));
-    let ended = explain_words(rt.alloc(), words, &mut shelf, &mut sink);
-    if let Ok(status) = ended {
-        if let Ok(words) = with_command(&rt, words) {
-            write_notes(rt, &words, status, sink.printed(), &mut shelf);
+    let mut sink = StdSink::new(rt);
+    match explain_words(rt.alloc(), words, &mut shelf, &mut sink) {
+        Ok(ended) => {
+            if let Ok(words) = with_command(&rt, words) {
+                write_notes(rt, &words, &ended, shelf.failure());
+            }
+            exit_number(Ok(ended.status))
         }
+        Err(error) => exit_number(Err(error)),
     }
-    exit_number(ended)
 }
 
 // The arguments as `./quelea` has them, with the command first.

@@ -6,7 +6,7 @@ ghost use Rattle.ql_reply.specs.Arguments.{word_texts};
 use crate::outcome::outcome;
 use ql_base::NoMemory;
 use ql_ports::{Shelf, Sink};
-use ql_reply::{Status, write_reply};
+use ql_reply::{Answered, Ended, write_reply};
 use std::alloc::Global;
 
 /// Carries out the arguments of the command line, without the program's own name: reads the files that they name from the
@@ -18,11 +18,12 @@ pub(crate) fn explain_words<S: Shelf, K: Sink>(
     words: &Vec<String>,
     shelf: &mut S,
     sink: &mut K,
-) -> Result<Status, NoMemory>
+) -> Result<Ended, NoMemory>
     // What was written is a text that the arguments allow with this status.
-    ensures wrote { IfOk result (Wrote
+    ensures wrote { IfOk result (λ ended. Wrote
         (Says (word_texts words.now) (S.held shelf.old) (S.faults shelf.old) (S.faults shelf.new))
-        (K.written sink.old) (K.written sink.new) (K.faults sink.old) (K.faults sink.new)) }
+        (K.written sink.old) (K.written sink.new) (K.faults sink.old) (K.faults sink.new)
+        ended.status) }
     ensures no_memory { OnErr result (K.written sink.new ≡ K.written sink.old) }
 
     // The files are unchanged, and no count of faults falls.
@@ -30,6 +31,16 @@ pub(crate) fn explain_words<S: Shelf, K: Sink>(
     ensures counts_stay { (other : List ℕ) → S.faults shelf.old other ≤ S.faults shelf.new other }
     ensures sink_count_stays { K.faults sink.old ≤ K.faults sink.new }
 {
-    let (status, text) = outcome(alloc, words, shelf)?;
-    Ok(write_reply(sink, status, &text))
+    let Answered {
+        reply,
+        first,
+        second,
+    } = outcome(alloc, words, shelf)?;
+    let status = write_reply(sink, reply.status, &reply.text);
+    Ok(Ended {
+        status,
+        cause: reply.cause,
+        first,
+        second,
+    })
 }

@@ -5,7 +5,7 @@ ghost use Rattle.ql_judging.specs.Verify.{execution_fault_text};
 
 use ql_base::NoMemory;
 use ql_execution_files::ReportFault;
-use ql_reply::{Fault, Part, Reply, Rule};
+use ql_reply::{Part, Reply, Rule};
 use std::alloc::Global;
 
 /// The answer on an execution's file with a fault.
@@ -13,23 +13,15 @@ pub(crate) fn bad_execution(alloc: Global, fault: ReportFault) -> Result<Reply, 
     ensures status { IfOk result (λ reply. reply.status ≡ Bad) }
     ensures text { IfOk result (λ reply. execution_fault_text fault ≡ Some reply.text.items) }
 {
-    let (at, rule) = match fault {
-        ReportFault::Unexpected(line) => (line, Rule::Unexpected),
-        ReportFault::Unknown(line) => (line, Rule::Unknown),
-        ReportFault::Mixed(line) => (line, Rule::Mixed),
-        ReportFault::Stamp(line) => (line, Rule::Stamp),
-        ReportFault::NotForward(line) => (line, Rule::NotForward),
-        ReportFault::OtherObject(line) => (line, Rule::OtherObject),
-        ReportFault::SplitTxn(line) => (line, Rule::SplitTxn),
-        ReportFault::TooMany(line) => (line, Rule::TooMany),
-        ReportFault::NoMemory => return Err(NoMemory),
-    };
-    Reply::bad(
-        alloc,
-        Fault {
-            part: Part::Execution,
-            at,
-            rule,
-        },
-    )
+    match fault {
+        ReportFault::Unexpected(line) => Reply::bad(alloc, Part::Execution, line, Rule::Unexpected),
+        ReportFault::Unknown(line) => Reply::bad(alloc, Part::Execution, line, Rule::Unknown),
+        ReportFault::Mixed(line) => Reply::bad(alloc, Part::Execution, line, Rule::Mixed),
+        ReportFault::Stamp(line) => Reply::bad(alloc, Part::Execution, line, Rule::Stamp),
+        ReportFault::NotForward(line) => Reply::bad(alloc, Part::Execution, line, Rule::NotForward),
+        ReportFault::OtherObject(line) => Reply::bad(alloc, Part::Execution, line, Rule::OtherObject),
+        ReportFault::SplitTxn(line) => Reply::bad(alloc, Part::Execution, line, Rule::SplitTxn),
+        ReportFault::TooMany(line) => Reply::bad(alloc, Part::Execution, line, Rule::TooMany),
+        ReportFault::NoMemory => Err(NoMemory),
+    }
 }

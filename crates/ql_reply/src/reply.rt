@@ -7,7 +7,7 @@ ghost use Rattle.ql_reply.specs.declared.status.Status.TheVariants.{Bad};
 // The answer of a program, before it is written.
 
 use crate::bad::bad_line;
-use crate::fault::{Fault, Rule};
+use crate::fault::{Fault, Part, Rule};
 use crate::status::Status;
 use ql_base::{DeclId, NoMemory, OpId};
 use std::alloc::Global;
@@ -61,7 +61,7 @@ pub struct Reply {
 
 impl Reply {
     ghost use Rattle.std.specs.Prelude.{◌≡◌, IfOk};
-    ghost use Rattle.ql_reply.specs.Lines.{reported_line};
+    ghost use Rattle.ql_reply.specs.Lines.{fault_line, part_name, rule_name};
     ghost use Rattle.ql_reply.specs.declared.status.Status.TheVariants.{Bad};
 
     /// An answer whose text says all.
@@ -76,15 +76,16 @@ impl Reply {
         }
     }
 
-    /// The answer on a file with a fault.
-    pub fn bad(alloc: Global, fault: Fault) -> Result<Reply, NoMemory>
+    /// The answer on a file whose first fault is at this offset of a source, or in this line of another file.
+    pub fn bad(alloc: Global, part: Part, at: u64, rule: Rule) -> Result<Reply, NoMemory>
         ensures status { IfOk result (λ reply. reply.status ≡ Bad) }
-        ensures text { IfOk result (λ reply. reply.text.items ≡ reported_line fault) }
+        ensures text { IfOk result
+            (λ reply. reply.text.items ≡ fault_line (part_name part) at (rule_name rule)) }
     {
         Ok(Reply {
             status: Status::Bad,
-            text: bad_line(alloc, fault.part.name(), fault.at, fault.rule.name())?,
-            cause: Cause::Fault(fault),
+            text: bad_line(alloc, part.name(), at, rule.name())?,
+            cause: Cause::Fault(Fault { part, at, rule }),
         })
     }
 }

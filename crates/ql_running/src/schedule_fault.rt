@@ -3,7 +3,7 @@ ghost use Rattle.ql_reply.specs.declared.status.Status.TheVariants.{Bad};
 ghost use Rattle.ql_running.specs.ScheduleFaults.{schedule_fault_text};
 
 use ql_base::NoMemory;
-use ql_reply::{Fault, Part, Reply, Rule};
+use ql_reply::{Part, Reply, Rule};
 use ql_schedule::SchedFault;
 use std::alloc::Global;
 
@@ -12,21 +12,13 @@ pub(crate) fn bad_schedule(alloc: Global, fault: SchedFault) -> Result<Reply, No
     ensures status { IfOk result (λ reply. reply.status ≡ Bad) }
     ensures text { IfOk result (λ reply. schedule_fault_text fault ≡ Some reply.text.items) }
 {
-    let (at, rule) = match fault {
-        SchedFault::Unexpected(line) => (line, Rule::Unexpected),
-        SchedFault::Unknown(line) => (line, Rule::Unknown),
-        SchedFault::Kind(line) => (line, Rule::Kind),
-        SchedFault::Range(line) => (line, Rule::Range),
-        SchedFault::TooMany(line) => (line, Rule::TooMany),
-        SchedFault::Twice(line) => (line, Rule::Twice),
-        SchedFault::NoMemory => return Err(NoMemory),
-    };
-    Reply::bad(
-        alloc,
-        Fault {
-            part: Part::Schedule,
-            at,
-            rule,
-        },
-    )
+    match fault {
+        SchedFault::Unexpected(line) => Reply::bad(alloc, Part::Schedule, line, Rule::Unexpected),
+        SchedFault::Unknown(line) => Reply::bad(alloc, Part::Schedule, line, Rule::Unknown),
+        SchedFault::Kind(line) => Reply::bad(alloc, Part::Schedule, line, Rule::Kind),
+        SchedFault::Range(line) => Reply::bad(alloc, Part::Schedule, line, Rule::Range),
+        SchedFault::TooMany(line) => Reply::bad(alloc, Part::Schedule, line, Rule::TooMany),
+        SchedFault::Twice(line) => Reply::bad(alloc, Part::Schedule, line, Rule::Twice),
+        SchedFault::NoMemory => Err(NoMemory),
+    }
 }

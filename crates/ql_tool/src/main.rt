@@ -3,8 +3,8 @@
 // answer go to standard error, after it.
 #![tactic(auto)]
 
-use ql_app::quelea;
-use ql_notes::{KeptSink, write_notes};
+use ql_app::carry_out;
+use ql_notes::write_notes;
 use ql_ports::{FileShelf, StdSink};
 use ql_reply::{arguments, exit_number};
 use std::process::ExitCode;
@@ -19,10 +19,12 @@ fn main(rt: HostRuntime) -> ExitCode {
 // Answers the arguments, and returns the exit status.
 fn run(rt: HostRuntime, words: &Vec<String>) -> u8 {
     let mut shelf = FileShelf::new(rt.alloc(), rt);
-    let mut sink = KeptSink::over(StdSink::new(rt));
-    let ended = quelea(rt.alloc(), words, &mut shelf, &mut sink);
-    if let Ok(status) = ended {
-        write_notes(rt, words, status, sink.printed(), &mut shelf);
+    let mut sink = StdSink::new(rt);
+    match carry_out(rt.alloc(), words, &mut shelf, &mut sink) {
+        Ok(ended) => {
+            write_notes(rt, words, &ended, shelf.failure());
+            exit_number(Ok(ended.status))
+        }
+        Err(error) => exit_number(Err(error)),
     }
-    exit_number(ended)
 }

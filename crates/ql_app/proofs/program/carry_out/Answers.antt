@@ -6,7 +6,7 @@ use Rattle.ql_app.specs.declared.outcome.Limits.{Limits}
 use Rattle.ql_app.specs.MissingFiles.{ReportsMissing}
 use Rattle.ql_app.specs.Outcome.{IsAnswered, Says}
 use Rattle.ql_app.proofs.Answered.{complete, never, says_held}
-use Rattle.ql_app.proofs.program.quelea.Goals as goal
+use Rattle.ql_app.proofs.program.carry_out.Goals as goal
 
 pub returns-clause-wrote : goal.returns-clause-wrote
 returns-clause-wrote g c =
