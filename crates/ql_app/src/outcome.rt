@@ -47,10 +47,7 @@ pub fn outcome<S: Shelf>(
     match parse_words(words) {
         None => {
             let text = Vec::from_slice(alloc, b"usage\n")?;
-            Ok(Answered::without_files(
-                alloc,
-                Reply::new(Status::Usage, text),
-            ))
+            Ok(Answered::without_files(alloc, Reply::new(Status::Usage, text)))
         }
         Some(Request::OneFile(command, name)) => of_file(alloc, command, shelf, name, limits),
         Some(Request::TwoFiles(command, name, other)) => {
@@ -126,11 +123,7 @@ fn without_file(alloc: Global, error: ReadWhy, name: &str) -> Result<Answered, N
     Ok(Answered::without_files(alloc, unread(alloc, error, name)?))
 }
 
-fn answer_command(
-    alloc: Global,
-    command: Command,
-    bytes: &[u8],
-) -> Result<Reply, NoMemory>
+fn answer_command(alloc: Global, command: Command, bytes: &[u8]) -> Result<Reply, NoMemory>
     requires short { length bytes.now < 2 ^ 32 }
     requires in_range { IsInRange command }
     ensures { IfOk result (λ reply. CommandSays command bytes.now reply.status reply.text.items) }

@@ -36,11 +36,7 @@ fn bad_proof(alloc: Global, fault: CertFault) -> Result<Reply, NoMemory>
 }
 
 // What the checker says of clauses and a refutation.
-fn verdict_on(
-    alloc: Global,
-    clauses: &Clauses,
-    refutation: &Refutation,
-) -> Result<Reply, NoMemory>
+fn verdict_on(alloc: Global, clauses: &Clauses, refutation: &Refutation) -> Result<Reply, NoMemory>
     ensures { IfOk result
         (λ reply. ProofReports clauses.now refutation.now.lines reply.status
         reply.text.items) }
@@ -48,10 +44,7 @@ fn verdict_on(
     let mut marks = vec![in alloc; 0; clauses.variables() as usize + 1]?;
     let verdict = check(clauses, refutation, marks.as_mut_slice());
     match refusal(alloc, verdict)? {
-        None => Ok(Reply::new(
-            Status::Done,
-            Vec::from_slice(alloc, b"accepted\n")?,
-        )),
+        None => Ok(Reply::new(Status::Done, Vec::from_slice(alloc, b"accepted\n")?)),
         Some(text) => Ok(Reply {
             status: Status::No,
             text,

@@ -8,9 +8,15 @@ use std::marker::Model;
 /// A set of ids, seen as their strictly ascending list.
 ///
 /// An id above all others is added in constant time.
-#[derive(Drop)]
 pub struct IdSet {
     ids: Vec<u32>,
+}
+
+// Written out, so that a crate above proves one call for it.
+impl Drop for IdSet {
+    fn drop(self) {
+        let IdSet { ids: _ } = self;
+    }
 }
 
 impl Model for IdSet {

@@ -10,9 +10,15 @@ use std::alloc::Global;
 use std::marker::Model;
 
 /// Distinct names, numbered from 0 in the order of their first occurrence, seen as their list.
-#[derive(Drop)]
 pub struct Names {
     words: IndexSet<Word>,
+}
+
+// Written out, so that a crate above proves one call for it.
+impl Drop for Names {
+    fn drop(self) {
+        let Names { words: _ } = self;
+    }
 }
 
 impl Model for Names {

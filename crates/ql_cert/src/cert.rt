@@ -22,9 +22,15 @@ pub struct Section {
 }
 
 /// Sections in order.
-#[derive(Drop)]
 pub struct Sections {
     items: Vec<Section>,
+}
+
+// Written out, so that a crate above proves one call for it.
+impl Drop for Sections {
+    fn drop(self) {
+        let Sections { items: _ } = self;
+    }
 }
 
 impl Model for Sections {
@@ -55,7 +61,8 @@ impl Sections {
     pub fn into_items(self) -> Vec<Section>
         ensures { result.items ≡ self }
     {
-        self.items
+        let Sections { items } = self;
+        items
     }
 }
 

@@ -16,11 +16,21 @@ use std::marker::Model;
 
 /// A program with the least level of each target, and for each the evidence. Its targets are its
 /// operations in order, and then its declared transactions in order.
-#[derive(Drop)]
 pub struct Classified<'a> {
     typed: &'a Typed,
     levels: Levels,
     evidence: Vec<Evidence>,
+}
+
+// Written out, so that a crate above proves one call for it.
+impl Drop for Classified<'_> {
+    fn drop(self) {
+        let Classified {
+            typed: _,
+            levels: _,
+            evidence: _,
+        } = self;
+    }
 }
 
 impl<'a> Model for Classified<'a> {

@@ -20,10 +20,19 @@ use ql_typing::Typed;
 use std::alloc::Global;
 
 /// A goal whose level isn't enough, with an assignment that satisfies its ground problem.
-#[derive(Drop)]
 pub struct Unmet {
     pub goal: Goal,
     pub assignment: Assignment,
+}
+
+// Written out, so that a crate above proves one call for it.
+impl Drop for Unmet {
+    fn drop(self) {
+        let Unmet {
+            goal: _,
+            assignment: _,
+        } = self;
+    }
 }
 
 /// What is found for a target.

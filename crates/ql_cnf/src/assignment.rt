@@ -5,9 +5,15 @@ use crate::{Clause, Clauses, Lit};
 use std::marker::Model;
 
 /// A truth value for each variable, in the order of the variables.
-#[derive(Drop)]
 pub struct Assignment {
     items: Vec<bool>,
+}
+
+// Written out, so that a crate above proves one call for it.
+impl Drop for Assignment {
+    fn drop(self) {
+        let Assignment { items: _ } = self;
+    }
 }
 
 impl Model for Assignment {
@@ -37,7 +43,8 @@ impl Assignment {
     pub fn into_items(self) -> Vec<bool>
         ensures { result.items ≡ self }
     {
-        self.items
+        let Assignment { items } = self;
+        items
     }
 }
 

@@ -7,9 +7,15 @@ use std::alloc::Global;
 use std::marker::Model;
 
 /// A clause: the disjunction of its literals, which are strictly ascending by variable.
-#[derive(Drop)]
 pub struct Clause {
     items: Vec<Lit>,
+}
+
+// Written out, so that a crate above proves one call for it.
+impl Drop for Clause {
+    fn drop(self) {
+        let Clause { items: _ } = self;
+    }
 }
 
 impl Model for Clause {
@@ -46,7 +52,8 @@ impl Clause {
         ensures same { result.items ≡ self }
         ensures ascending { IsAscendingByVariable self }
     {
-        self.items
+        let Clause { items } = self;
+        items
     }
 
     /// The clause with one more literal, in order; none if the clause has the literal's negation.

@@ -10,10 +10,19 @@ use std::alloc::Global;
 use std::marker::Model;
 
 /// Clauses over the variables from 1 to a count: their conjunction.
-#[derive(Drop)]
 pub struct Clauses {
     variables: u32,
     clauses: Vec<Clause>,
+}
+
+// Written out, so that a crate above proves one call for it.
+impl Drop for Clauses {
+    fn drop(self) {
+        let Clauses {
+            variables: _,
+            clauses: _,
+        } = self;
+    }
 }
 
 impl Model for Clauses {

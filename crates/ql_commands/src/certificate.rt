@@ -28,10 +28,7 @@ pub fn prove(alloc: Global, source: &[u8]) -> Result<Reply, NoMemory>
         Err(fault) => return bad_source(alloc, fault),
     };
     match ql_classify::classify(alloc, &typed) {
-        Ok(classified) => Ok(Reply::new(
-            Status::Done,
-            certificate(alloc, &classified)?,
-        )),
+        Ok(classified) => Ok(Reply::new(Status::Done, certificate(alloc, &classified)?)),
         Err(why) => refusal(alloc, &typed, why),
     }
 }

@@ -14,11 +14,7 @@ use std::alloc::Global;
 
 /// Whether the sections of a certificate are those of the source's targets, in order, and each refutes
 /// the ground problem of its target at its level.
-pub fn check(
-    alloc: Global,
-    source: &[u8],
-    certificate: &[u8],
-) -> Result<Reply, NoMemory>
+pub fn check(alloc: Global, source: &[u8], certificate: &[u8]) -> Result<Reply, NoMemory>
     requires { length source.now < 2 ^ 32 }
     ensures { IfOk result (λ reply. CheckSays source.now certificate.now reply.status reply.text.items) }
 {
@@ -33,11 +29,7 @@ pub fn check(
     check_sections(alloc, &typed, cert.sections.items())
 }
 
-fn check_sections(
-    alloc: Global,
-    t: &Typed,
-    sections: &[Section],
-) -> Result<Reply, NoMemory>
+fn check_sections(alloc: Global, t: &Typed, sections: &[Section]) -> Result<Reply, NoMemory>
     ensures { IfOk result
         (λ reply. SectionsSay t.now.program sections.now reply.status reply.text.items) }
 {

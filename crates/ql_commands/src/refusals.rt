@@ -5,8 +5,8 @@ ghost use Rattle.ql_commands.specs.Levels.{NamesTargets, refusal_text};
 
 use ql_base::{DeclId, NoMemory, OpId};
 use ql_classify::Classless;
-use ql_report::{print_none_op, print_none_txn, print_strong_use};
 use ql_reply::{Cause, Reply, Status};
+use ql_report::{print_none_op, print_none_txn, print_strong_use};
 use ql_typing::Typed;
 use std::alloc::Global;
 

@@ -39,7 +39,10 @@ pub(crate) fn push_sections(
     push_verdict(out, verdict)?;
     match verdict {
         Verdict::Accepted => push_sections(alloc, t, place + 1, others, out),
-        _ => Ok((Status::No, Cause::Refused(refused(Some(place + 1), verdict)))),
+        _ => Ok((
+            Status::No,
+            Cause::Refused(refused(Some(place + 1), verdict)),
+        )),
     }
 }
 

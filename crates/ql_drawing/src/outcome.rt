@@ -30,19 +30,12 @@ pub fn outcome<S: Shelf>(
     ensures counts_stay { (other : List ℕ) → S.faults shelf.old other ≤ S.faults shelf.new other }
 {
     match parse_words(words) {
-        None => Ok(Reply::new(
-            Status::Usage,
-            Vec::from_slice(alloc, HELP.as_bytes())?,
-        )),
+        None => Ok(Reply::new(Status::Usage, Vec::from_slice(alloc, HELP.as_bytes())?)),
         Some(request) => of_request(alloc, request, shelf),
     }
 }
 
-fn of_request<S: Shelf>(
-    alloc: Global,
-    request: Request,
-    shelf: &mut S,
-) -> Result<Reply, NoMemory>
+fn of_request<S: Shelf>(alloc: Global, request: Request, shelf: &mut S) -> Result<Reply, NoMemory>
     ensures says { IfOk result
         (λ reply. Reports (S.held shelf.old) (S.faults shelf.old) (S.faults shelf.new)
         (asked_of request.entry) reply.status reply.text.items) }

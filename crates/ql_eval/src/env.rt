@@ -11,9 +11,15 @@ use std::alloc::Global;
 use std::marker::Model;
 
 /// Names with their values, one for each name in scope. If a name is there twice, its first value counts.
-#[derive(Drop)]
 pub struct Env {
     pairs: Vec<(Word, Value)>,
+}
+
+// Written out, so that a crate above proves one call for it.
+impl Drop for Env {
+    fn drop(self) {
+        let Env { pairs: _ } = self;
+    }
 }
 
 impl Model for Env {
@@ -44,7 +50,8 @@ impl Env {
     pub fn into_items(self) -> Vec<(Word, Value)>
         ensures { result.items ≡ self }
     {
-        self.pairs
+        let Env { pairs } = self;
+        pairs
     }
 
     /// Equal names with equal values.

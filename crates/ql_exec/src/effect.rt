@@ -46,7 +46,6 @@ pub enum Payload {
 }
 
 /// What one call of an operation left in the execution.
-#[derive(Drop)]
 pub struct Effect {
     pub object: ObjId,
     pub op: OpId,
@@ -60,6 +59,23 @@ pub struct Effect {
     pub stamp: u32,
     /// The effects that the call saw.
     pub seen: IdSet,
+}
+
+// Written out, so that a crate above proves one call for it.
+impl Drop for Effect {
+    fn drop(self) {
+        let Effect {
+            object: _,
+            op: _,
+            args: _,
+            payload: _,
+            answer: _,
+            session: _,
+            member: _,
+            stamp: _,
+            seen: _,
+        } = self;
+    }
 }
 
 /// An effect that isn't in an execution yet, and has no stamp.

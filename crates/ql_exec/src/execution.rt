@@ -17,7 +17,6 @@ use std::alloc::Global;
 use std::marker::Model;
 
 /// An execution, seen as the list of its effects. They are numbered from 1.
-#[derive(Drop)]
 pub struct Execution {
     effects: Vec<Effect>,
     // The last effect of each session.
@@ -26,6 +25,18 @@ pub struct Execution {
     links: Vec<u32>,
     // Each begun transaction that has an effect, and possibly some that have none.
     runs: IdSet,
+}
+
+// Written out, so that a crate above proves one call for it.
+impl Drop for Execution {
+    fn drop(self) {
+        let Execution {
+            effects: _,
+            latest: _,
+            links: _,
+            runs: _,
+        } = self;
+    }
 }
 
 impl Model for Execution {

@@ -14,9 +14,15 @@ pub(crate) struct Entry {
 }
 
 /// The last effect of each session, seen as the list of the entries.
-#[derive(Drop)]
 pub(crate) struct Latest {
     entries: Vec<Entry>,
+}
+
+// Written out, so that a crate above proves one call for it.
+impl Drop for Latest {
+    fn drop(self) {
+        let Latest { entries: _ } = self;
+    }
 }
 
 impl Model for Latest {

@@ -33,10 +33,7 @@ pub(crate) fn outcome<S: Shelf>(
     match parse_words(words) {
         None => {
             let text = Vec::from_slice(alloc, HELP.as_bytes())?;
-            Ok(Answered::without_files(
-                alloc,
-                Reply::new(Status::Usage, text),
-            ))
+            Ok(Answered::without_files(alloc, Reply::new(Status::Usage, text)))
         }
         Some(Request::Explained(form, name)) => of_source(alloc, form, name, shelf),
         Some(Request::Compared(pair)) => of_pair(alloc, pair, shelf),
@@ -65,11 +62,7 @@ fn of_source<S: Shelf>(
     }
 }
 
-fn of_pair<S: Shelf>(
-    alloc: Global,
-    pair: Pair,
-    shelf: &mut S,
-) -> Result<Answered, NoMemory>
+fn of_pair<S: Shelf>(alloc: Global, pair: Pair, shelf: &mut S) -> Result<Answered, NoMemory>
     ensures says { IfOk result
         (λ answered. Reports (S.held shelf.old) (S.faults shelf.old) (S.faults shelf.new)
         (Compared pair.entry.baseline.now pair.entry.source.now) answered.reply.status answered.reply.text.items) }

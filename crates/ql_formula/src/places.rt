@@ -4,10 +4,16 @@ use ql_base::EffId;
 use std::marker::Model;
 
 /// The effects chosen for a formula's variables: at most five ids, seen as their list.
-#[derive(Drop)]
 pub struct Places {
     row: [EffId; 5],
     count: u8,
+}
+
+// Written out, so that a crate above proves one call for it.
+impl Drop for Places {
+    fn drop(self) {
+        let Places { row: _, count: _ } = self;
+    }
 }
 
 impl Model for Places {

@@ -17,12 +17,23 @@ use std::marker::Model;
 ///
 /// Visibility and each of the two closures take a bit for each effect and each earlier one: 3 MB
 /// for 4,000 effects.
-#[derive(Drop)]
 pub struct Relations {
     keys: Vec<Key>,
     vis: Vec<Row>,
     hbo: Vec<Row>,
     hb: Vec<Row>,
+}
+
+// Written out, so that a crate above proves one call for it.
+impl Drop for Relations {
+    fn drop(self) {
+        let Relations {
+            keys: _,
+            vis: _,
+            hbo: _,
+            hb: _,
+        } = self;
+    }
 }
 
 impl Model for Relations {

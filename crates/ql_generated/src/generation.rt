@@ -9,12 +9,7 @@ use ql_schedule::print_schedule;
 use std::alloc::Global;
 
 /// The schedule of a number, with this number of events, of a source's program; or the first fault of the source.
-pub fn generate(
-    alloc: Global,
-    source: &[u8],
-    number: u32,
-    events: u32,
-) -> Result<Reply, NoMemory>
+pub fn generate(alloc: Global, source: &[u8], number: u32, events: u32) -> Result<Reply, NoMemory>
     requires source { length source.now < 2 ^ 32 }
     requires number { number < 2 ^ 31 }
     requires few { events ≤ 4000 }
@@ -25,8 +20,5 @@ pub fn generate(
         Err(fault) => return bad_source(alloc, fault),
     };
     let schedule = schedule_of(alloc, &typed, number, events)?;
-    Ok(Reply::new(
-        Status::Done,
-        print_schedule(alloc, &typed, &schedule)?,
-    ))
+    Ok(Reply::new(Status::Done, print_schedule(alloc, &typed, &schedule)?))
 }

@@ -5,7 +5,6 @@ use ql_lines::{after_name, after_number, after_word, ascending_ids, first_field}
 use std::alloc::Global;
 
 /// An effect as a picture shows it.
-#[derive(Drop)]
 pub struct Effect {
     /// The index of its object's name.
     pub object: u32,
@@ -16,6 +15,21 @@ pub struct Effect {
     pub session: u32,
     pub begun: Option<Begun>,
     pub seen: IdSet,
+}
+
+// Written out, so that a crate above proves one call for it.
+impl Drop for Effect {
+    fn drop(self) {
+        let Effect {
+            object: _,
+            op: _,
+            call: _,
+            answer: _,
+            session: _,
+            begun: _,
+            seen: _,
+        } = self;
+    }
 }
 
 /// The fields of an effect's line, as they are spelled.

@@ -37,7 +37,6 @@ pub enum Cause {
 }
 
 /// An event, with the texts above and below its mark, and the number of the begun transaction that it belongs to.
-#[derive(Drop)]
 pub struct Column {
     pub spot: Spot,
     pub happening: Happening,
@@ -46,9 +45,21 @@ pub struct Column {
     pub begun: Option<u32>,
 }
 
+// Written out, so that a crate above proves one call for it.
+impl Drop for Column {
+    fn drop(self) {
+        let Column {
+            spot: _,
+            happening: _,
+            above: _,
+            below: _,
+            begun: _,
+        } = self;
+    }
+}
+
 /// The part of a run that is drawn. Without a schedule each effect is an event at the one replica 0, and `replicas`
 /// is 0.
-#[derive(Drop)]
 pub struct History {
     /// How many replicas there are at the end.
     pub replicas: u32,
@@ -59,6 +70,20 @@ pub struct History {
     pub seats: Vec<Seat>,
     pub passages: Vec<Passage>,
     pub spans: Vec<Span>,
+}
+
+// Written out, so that a crate above proves one call for it.
+impl Drop for History {
+    fn drop(self) {
+        let History {
+            replicas: _,
+            joins: _,
+            columns: _,
+            seats: _,
+            passages: _,
+            spans: _,
+        } = self;
+    }
 }
 
 /// The part of a run that is drawn: its effects and events up to the limit. None where the schedule isn't the run's.

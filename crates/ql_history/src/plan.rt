@@ -6,11 +6,20 @@ use ql_lines::{Lines, after_number, after_word, first_field};
 use std::alloc::Global;
 
 /// A schedule as a picture shows it.
-#[derive(Drop)]
 pub struct Plan {
     /// How many replicas there are at the start, 1 to 16.
     pub replicas: u32,
     pub events: Vec<Step>,
+}
+
+// Written out, so that a crate above proves one call for it.
+impl Drop for Plan {
+    fn drop(self) {
+        let Plan {
+            replicas: _,
+            events: _,
+        } = self;
+    }
 }
 
 // The state of reading a schedule.

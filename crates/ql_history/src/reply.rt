@@ -25,13 +25,23 @@ pub enum ReplyWord {
 }
 
 /// The reply to an event.
-#[derive(Drop)]
 pub struct Reply {
     pub word: ReplyWord,
     /// The number after the word, if there is one.
     pub number: Option<u32>,
     /// The whole reply, as it was printed.
     pub text: Vec<u8>,
+}
+
+// Written out, so that a crate above proves one call for it.
+impl Drop for Reply {
+    fn drop(self) {
+        let Reply {
+            word: _,
+            number: _,
+            text: _,
+        } = self;
+    }
 }
 
 /// The reply on a line that has to have this number.

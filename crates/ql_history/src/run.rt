@@ -12,16 +12,25 @@ use ql_lines::{Line, Lines, after_name, after_number, after_spaces, after_word, 
 use std::alloc::Global;
 
 /// The level of an operation or of a transaction.
-#[derive(Drop)]
 pub struct Level {
     pub is_txn: bool,
     pub name: Word,
     pub level: Vec<u8>,
 }
 
+// Written out, so that a crate above proves one call for it.
+impl Drop for Level {
+    fn drop(self) {
+        let Level {
+            is_txn: _,
+            name: _,
+            level: _,
+        } = self;
+    }
+}
+
 /// The contents of the text of a run, of a countermodel, of an execution, or of a `holds` file. Parts that the text
 /// lacks are empty.
-#[derive(Drop)]
 pub struct Run {
     pub levels: Vec<Level>,
     pub replies: Vec<Reply>,
@@ -29,6 +38,19 @@ pub struct Run {
     pub effects: Vec<Effect>,
     /// What a countermodel says after its level, as `at 2 a=1`, or the effect at which a contract of `holds` is judged.
     pub why: Vec<u8>,
+}
+
+// Written out, so that a crate above proves one call for it.
+impl Drop for Run {
+    fn drop(self) {
+        let Run {
+            levels: _,
+            replies: _,
+            objects: _,
+            effects: _,
+            why: _,
+        } = self;
+    }
 }
 
 impl Run {

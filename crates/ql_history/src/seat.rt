@@ -5,12 +5,23 @@ use ql_base::{NoMemory, push_bytes, push_number};
 use std::alloc::Global;
 
 /// An effect where it is drawn, with the index of its object, whether its operation is strong, and its line in short.
-#[derive(Drop)]
 pub struct Seat {
     pub spot: Spot,
     pub object: u32,
     pub is_strong: bool,
     pub title: Vec<u8>,
+}
+
+// Written out, so that a crate above proves one call for it.
+impl Drop for Seat {
+    fn drop(self) {
+        let Seat {
+            spot: _,
+            object: _,
+            is_strong: _,
+            title: _,
+        } = self;
+    }
 }
 
 /// The seat of the effect with this number at a spot.

@@ -6,9 +6,15 @@ use ql_lang::Formula;
 use std::marker::Model;
 
 /// Words in order.
-#[derive(Drop)]
 pub struct Words {
     items: Vec<Word>,
+}
+
+// Written out, so that a crate above proves one call for it.
+impl Drop for Words {
+    fn drop(self) {
+        let Words { items: _ } = self;
+    }
 }
 
 impl Model for Words {
@@ -35,17 +41,29 @@ impl Words {
     pub fn into_items(self) -> Vec<Word>
         ensures { result.items ≡ self }
     {
-        self.items
+        let Words { items } = self;
+        items
     }
 }
 
 /// The question of a holds file: whether the formula is true in the execution, with the effect `cur`
 /// as the current one.
-#[derive(Drop)]
 pub struct Holding {
     pub formula: Formula,
     /// The names of the formula's variables, in order.
     pub names: Words,
     pub cur: EffId,
     pub execution: Execution,
+}
+
+// Written out, so that a crate above proves one call for it.
+impl Drop for Holding {
+    fn drop(self) {
+        let Holding {
+            formula: _,
+            names: _,
+            cur: _,
+            execution: _,
+        } = self;
+    }
 }

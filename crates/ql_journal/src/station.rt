@@ -41,7 +41,6 @@ use ql_ports::Failed;
 use std::alloc::Global;
 
 /// A replica that journals on a disk what it receives.
-#[derive(Drop)]
 pub struct Station<H: Holder> {
     alloc: Global,
     holder: H,
@@ -49,6 +48,18 @@ pub struct Station<H: Holder> {
     end: u64,
     // A receipt returned `Failed`, and what the disk holds isn't known.
     stopped: bool,
+}
+
+// Written out, so that a crate above proves one call for it.
+impl<H: Holder> Drop for Station<H> {
+    fn drop(self) {
+        let Station {
+            alloc: _,
+            holder: _,
+            end: _,
+            stopped: _,
+        } = self;
+    }
 }
 
 impl<H: Holder> Station<H> {

@@ -5,10 +5,16 @@ use crate::relation::Rel;
 use std::marker::Model;
 
 /// A contract: its variables, each over all effects, and what holds of them and the current effect.
-#[derive(Drop)]
 pub struct Contract {
     pub vars: Vars,
     pub body: Prop,
+}
+
+// Written out, so that a crate above proves one call for it.
+impl Drop for Contract {
+    fn drop(self) {
+        let Contract { vars: _, body: _ } = self;
+    }
 }
 
 /// A variable. If it names operations, it ranges only over their effects.
@@ -19,9 +25,15 @@ pub struct Var {
 }
 
 /// A contract's variables, in order.
-#[derive(Drop)]
 pub struct Vars {
     items: Vec<Var>,
+}
+
+// Written out, so that a crate above proves one call for it.
+impl Drop for Vars {
+    fn drop(self) {
+        let Vars { items: _ } = self;
+    }
 }
 
 impl Model for Vars {
@@ -49,7 +61,8 @@ impl Vars {
     pub fn into_items(self) -> Vec<Var>
         ensures { result.items ≡ self }
     {
-        self.items
+        let Vars { items } = self;
+        items
     }
 }
 
@@ -72,9 +85,15 @@ pub enum Point {
 }
 
 /// Terms in the order of the source.
-#[derive(Drop)]
 pub struct Points {
     items: Vec<Point>,
+}
+
+// Written out, so that a crate above proves one call for it.
+impl Drop for Points {
+    fn drop(self) {
+        let Points { items: _ } = self;
+    }
 }
 
 impl Model for Points {
@@ -102,6 +121,7 @@ impl Points {
     pub fn into_items(self) -> Vec<Point>
         ensures { result.items ≡ self }
     {
-        self.items
+        let Points { items } = self;
+        items
     }
 }

@@ -53,7 +53,8 @@ impl Exprs {
     pub fn into_items(self) -> Vec<Expr>
         ensures { result.items ≡ arguments self }
     {
-        self.items
+        let Exprs { items } = self;
+        items
     }
 }
 
@@ -74,9 +75,15 @@ pub enum BinOp {
 }
 
 /// The bytes between the quotes of a text.
-#[derive(Drop)]
 pub struct TextLit {
     bytes: Vec<u8>,
+}
+
+// Written out, so that a crate above proves one call for it.
+impl Drop for TextLit {
+    fn drop(self) {
+        let TextLit { bytes: _ } = self;
+    }
 }
 
 impl Model for TextLit {
@@ -103,6 +110,7 @@ impl TextLit {
     pub fn into_items(self) -> Vec<u8>
         ensures { result.items ≡ self }
     {
-        self.bytes
+        let TextLit { bytes } = self;
+        bytes
     }
 }

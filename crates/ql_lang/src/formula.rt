@@ -5,10 +5,16 @@ use ql_base::IdSet;
 use std::marker::Model;
 
 /// A contract whose names are resolved.
-#[derive(Drop)]
 pub struct Formula {
     pub vars: Choices,
     pub body: Body,
+}
+
+// Written out, so that a crate above proves one call for it.
+impl Drop for Formula {
+    fn drop(self) {
+        let Formula { vars: _, body: _ } = self;
+    }
 }
 
 /// The operations over whose effects a variable ranges.
@@ -19,9 +25,15 @@ pub enum OpChoice {
 }
 
 /// The choice of each of a formula's variables, in order.
-#[derive(Drop)]
 pub struct Choices {
     items: Vec<OpChoice>,
+}
+
+// Written out, so that a crate above proves one call for it.
+impl Drop for Choices {
+    fn drop(self) {
+        let Choices { items: _ } = self;
+    }
 }
 
 impl Model for Choices {
@@ -49,7 +61,8 @@ impl Choices {
     pub fn into_items(self) -> Vec<OpChoice>
         ensures { result.items ≡ self }
     {
-        self.items
+        let Choices { items } = self;
+        items
     }
 }
 
@@ -72,9 +85,15 @@ pub enum Term {
 }
 
 /// Terms in order.
-#[derive(Drop)]
 pub struct Terms {
     items: Vec<Term>,
+}
+
+// Written out, so that a crate above proves one call for it.
+impl Drop for Terms {
+    fn drop(self) {
+        let Terms { items: _ } = self;
+    }
 }
 
 impl Model for Terms {
@@ -102,6 +121,7 @@ impl Terms {
     pub fn into_items(self) -> Vec<Term>
         ensures { result.items ≡ self }
     {
-        self.items
+        let Terms { items } = self;
+        items
     }
 }

@@ -11,9 +11,15 @@ pub struct Name {
 }
 
 /// Names in the order of the source.
-#[derive(Drop)]
 pub struct NameList {
     items: Vec<Name>,
+}
+
+// Written out, so that a crate above proves one call for it.
+impl Drop for NameList {
+    fn drop(self) {
+        let NameList { items: _ } = self;
+    }
 }
 
 impl Model for NameList {
@@ -41,6 +47,7 @@ impl NameList {
     pub fn into_items(self) -> Vec<Name>
         ensures { result.items ≡ self }
     {
-        self.items
+        let NameList { items } = self;
+        items
     }
 }

@@ -32,9 +32,15 @@ pub struct Param {
 }
 
 /// An operation's parameters, in order.
-#[derive(Drop)]
 pub struct Params {
     items: Vec<Param>,
+}
+
+// Written out, so that a crate above proves one call for it.
+impl Drop for Params {
+    fn drop(self) {
+        let Params { items: _ } = self;
+    }
 }
 
 impl Model for Params {
@@ -62,7 +68,8 @@ impl Params {
     pub fn into_items(self) -> Vec<Param>
         ensures { result.items ≡ self }
     {
-        self.items
+        let Params { items } = self;
+        items
     }
 }
 
@@ -75,9 +82,15 @@ pub struct Bind {
 }
 
 /// An operation's emitted values, in order.
-#[derive(Drop)]
 pub struct Binds {
     items: Vec<Bind>,
+}
+
+// Written out, so that a crate above proves one call for it.
+impl Drop for Binds {
+    fn drop(self) {
+        let Binds { items: _ } = self;
+    }
 }
 
 impl Model for Binds {
@@ -110,7 +123,8 @@ impl Binds {
     pub fn into_items(self) -> Vec<Bind>
         ensures { result.items ≡ self }
     {
-        self.items
+        let Binds { items } = self;
+        items
     }
 }
 
@@ -122,9 +136,15 @@ pub struct Stmt {
 }
 
 /// An operation's statements, in order.
-#[derive(Drop)]
 pub struct Stmts {
     items: Vec<Stmt>,
+}
+
+// Written out, so that a crate above proves one call for it.
+impl Drop for Stmts {
+    fn drop(self) {
+        let Stmts { items: _ } = self;
+    }
 }
 
 impl Model for Stmts {
@@ -157,20 +177,30 @@ impl Stmts {
     pub fn into_items(self) -> Vec<Stmt>
         ensures { result.items ≡ self }
     {
-        self.items
+        let Stmts { items } = self;
+        items
     }
 }
 
 /// What an operation emits and when, and the statements that apply it to a state.
-#[derive(Drop)]
 pub struct EmitDecl {
     pub binds: Binds,
     pub test: Expr,
     pub stmts: Stmts,
 }
 
+// Written out, so that a crate above proves one call for it.
+impl Drop for EmitDecl {
+    fn drop(self) {
+        let EmitDecl {
+            binds: _,
+            test: _,
+            stmts: _,
+        } = self;
+    }
+}
+
 /// An operation, and the source offset of the word `op`.
-#[derive(Drop)]
 pub struct OpDecl {
     pub at: u32,
     pub name: Name,
@@ -181,10 +211,31 @@ pub struct OpDecl {
     pub effect: Option<EmitDecl>,
 }
 
+// Written out, so that a crate above proves one call for it.
+impl Drop for OpDecl {
+    fn drop(self) {
+        let OpDecl {
+            at: _,
+            name: _,
+            params: _,
+            kind: _,
+            contract: _,
+            answer: _,
+            effect: _,
+        } = self;
+    }
+}
+
 /// A type's operations, in order.
-#[derive(Drop)]
 pub struct OpDecls {
     items: Vec<OpDecl>,
+}
+
+// Written out, so that a crate above proves one call for it.
+impl Drop for OpDecls {
+    fn drop(self) {
+        let OpDecls { items: _ } = self;
+    }
 }
 
 impl Model for OpDecls {
@@ -219,6 +270,7 @@ impl OpDecls {
     pub fn into_items(self) -> Vec<OpDecl>
         ensures { result.items ≡ self }
     {
-        self.items
+        let OpDecls { items } = self;
+        items
     }
 }

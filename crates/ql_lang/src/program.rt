@@ -24,7 +24,6 @@ pub enum InitNode {
 }
 
 /// A state field, and the source offset of the word `state`.
-#[derive(Drop)]
 pub struct Field {
     pub at: u32,
     pub name: Name,
@@ -32,10 +31,28 @@ pub struct Field {
     pub init: Init,
 }
 
+// Written out, so that a crate above proves one call for it.
+impl Drop for Field {
+    fn drop(self) {
+        let Field {
+            at: _,
+            name: _,
+            kind: _,
+            init: _,
+        } = self;
+    }
+}
+
 /// A type's state fields, in order.
-#[derive(Drop)]
 pub struct Fields {
     items: Vec<Field>,
+}
+
+// Written out, so that a crate above proves one call for it.
+impl Drop for Fields {
+    fn drop(self) {
+        let Fields { items: _ } = self;
+    }
 }
 
 impl Model for Fields {
@@ -63,12 +80,12 @@ impl Fields {
     pub fn into_items(self) -> Vec<Field>
         ensures { result.items ≡ self }
     {
-        self.items
+        let Fields { items } = self;
+        items
     }
 }
 
 /// A replicated type, and the source offset of the word `type`.
-#[derive(Drop)]
 pub struct TypeDecl {
     pub at: u32,
     pub name: Name,
@@ -76,10 +93,28 @@ pub struct TypeDecl {
     pub ops: OpDecls,
 }
 
+// Written out, so that a crate above proves one call for it.
+impl Drop for TypeDecl {
+    fn drop(self) {
+        let TypeDecl {
+            at: _,
+            name: _,
+            fields: _,
+            ops: _,
+        } = self;
+    }
+}
+
 /// A program's types, in order.
-#[derive(Drop)]
 pub struct TypeDecls {
     items: Vec<TypeDecl>,
+}
+
+// Written out, so that a crate above proves one call for it.
+impl Drop for TypeDecls {
+    fn drop(self) {
+        let TypeDecls { items: _ } = self;
+    }
 }
 
 impl Model for TypeDecls {
@@ -114,12 +149,12 @@ impl TypeDecls {
     pub fn into_items(self) -> Vec<TypeDecl>
         ensures { result.items ≡ self }
     {
-        self.items
+        let TypeDecls { items } = self;
+        items
     }
 }
 
 /// A transaction, the operations that it uses, and the source offset of the word `transaction`.
-#[derive(Drop)]
 pub struct TxnDecl {
     pub at: u32,
     pub name: Name,
@@ -127,10 +162,28 @@ pub struct TxnDecl {
     pub contract: Contract,
 }
 
+// Written out, so that a crate above proves one call for it.
+impl Drop for TxnDecl {
+    fn drop(self) {
+        let TxnDecl {
+            at: _,
+            name: _,
+            uses: _,
+            contract: _,
+        } = self;
+    }
+}
+
 /// A program's transactions, in order.
-#[derive(Drop)]
 pub struct TxnDecls {
     items: Vec<TxnDecl>,
+}
+
+// Written out, so that a crate above proves one call for it.
+impl Drop for TxnDecls {
+    fn drop(self) {
+        let TxnDecls { items: _ } = self;
+    }
 }
 
 impl Model for TxnDecls {
@@ -164,13 +217,20 @@ impl TxnDecls {
     pub fn into_items(self) -> Vec<TxnDecl>
         ensures { result.items ≡ self }
     {
-        self.items
+        let TxnDecls { items } = self;
+        items
     }
 }
 
 /// A whole source.
-#[derive(Drop)]
 pub struct Program {
     pub types: TypeDecls,
     pub txns: TxnDecls,
+}
+
+// Written out, so that a crate above proves one call for it.
+impl Drop for Program {
+    fn drop(self) {
+        let Program { types: _, txns: _ } = self;
+    }
 }

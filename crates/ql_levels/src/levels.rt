@@ -6,10 +6,16 @@ use std::alloc::Global;
 use std::marker::Model;
 
 /// A level for each operation and each declared transaction of a program.
-#[derive(Drop)]
 pub struct Levels {
     ops: Vec<Level>,
     txns: Vec<TxnLevel>,
+}
+
+// Written out, so that a crate above proves one call for it.
+impl Drop for Levels {
+    fn drop(self) {
+        let Levels { ops: _, txns: _ } = self;
+    }
 }
 
 impl Model for Levels {

@@ -3,9 +3,15 @@ ghost use Rattle.std.specs.Prelude.{◌≡◌};
 use std::marker::Model;
 
 /// The group of each replica, in order. Messages pass only within a group.
-#[derive(Drop)]
 pub struct Groups {
     numbers: Vec<u32>,
+}
+
+// Written out, so that a crate above proves one call for it.
+impl Drop for Groups {
+    fn drop(self) {
+        let Groups { numbers: _ } = self;
+    }
 }
 
 impl Model for Groups {
@@ -32,6 +38,7 @@ impl Groups {
     pub fn into_items(self) -> Vec<u32>
         ensures { result.items ≡ self }
     {
-        self.numbers
+        let Groups { numbers } = self;
+        numbers
     }
 }

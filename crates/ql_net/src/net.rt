@@ -21,10 +21,19 @@ use std::rc::Rc;
 /// were sent together share what they carry.
 /// A call takes constant time, except for `new`, `send_to_others`, `heal` and `outside`, which go over the
 /// replicas once.
-#[derive(Drop)]
 pub struct Net {
     messages: Vec<Sent>,
     groups: Vec<u32>,
+}
+
+// Written out, so that a crate above proves one call for it.
+impl Drop for Net {
+    fn drop(self) {
+        let Net {
+            messages: _,
+            groups: _,
+        } = self;
+    }
 }
 
 impl Model for Net {

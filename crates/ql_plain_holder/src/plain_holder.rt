@@ -13,11 +13,21 @@ use ql_reach::reach;
 use std::alloc::Global;
 
 /// A holder that keeps a list of what was received and a list of what is applied.
-#[derive(Drop)]
 pub struct PlainHolder {
     received: IdSet,
     applied: IdSet,
     alloc: Global,
+}
+
+// Written out, so that a crate above proves one call for it.
+impl Drop for PlainHolder {
+    fn drop(self) {
+        let PlainHolder {
+            received: _,
+            applied: _,
+            alloc: _,
+        } = self;
+    }
 }
 
 impl Holder for PlainHolder {

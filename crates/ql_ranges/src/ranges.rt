@@ -20,9 +20,15 @@ pub struct IdRange {
 /// at least one id is missing.
 ///
 /// Looking up an id takes time logarithmic in the number of ranges.
-#[derive(Drop)]
 pub struct Ranges {
     ranges: Vec<IdRange>,
+}
+
+// Written out, so that a crate above proves one call for it.
+impl Drop for Ranges {
+    fn drop(self) {
+        let Ranges { ranges: _ } = self;
+    }
 }
 
 impl Model for Ranges {

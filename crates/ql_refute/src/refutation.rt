@@ -15,9 +15,15 @@ pub enum Hint {
 }
 
 /// Hints in the order in which the checker takes them.
-#[derive(Drop)]
 pub struct Hints {
     items: Vec<Hint>,
+}
+
+// Written out, so that a crate above proves one call for it.
+impl Drop for Hints {
+    fn drop(self) {
+        let Hints { items: _ } = self;
+    }
 }
 
 impl Model for Hints {
@@ -48,7 +54,8 @@ impl Hints {
     pub fn into_items(self) -> Vec<Hint>
         ensures { result.items ≡ self }
     {
-        self.items
+        let Hints { items } = self;
+        items
     }
 }
 
@@ -73,9 +80,15 @@ impl Line {
 }
 
 /// The lines of a refutation, in order.
-#[derive(Drop)]
 pub struct Lines {
     items: Vec<Line>,
+}
+
+// Written out, so that a crate above proves one call for it.
+impl Drop for Lines {
+    fn drop(self) {
+        let Lines { items: _ } = self;
+    }
 }
 
 impl Model for Lines {
@@ -106,7 +119,8 @@ impl Lines {
     pub fn into_items(self) -> Vec<Line>
         ensures { result.items ≡ self }
     {
-        self.items
+        let Lines { items } = self;
+        items
     }
 }
 

@@ -19,12 +19,23 @@ use std::marker::Model;
 /// A holder that keeps what was received and what is applied as ranges, and for each waiting package
 /// an id that it needs and that hasn't been received. A receipt walks the package that arrived and those that
 /// watched one of its ids.
-#[derive(Drop)]
 pub struct Replica {
     received: Ranges,
     applied: Ranges,
     waiting: Slab<Waiting>,
     alloc: Global,
+}
+
+// Written out, so that a crate above proves one call for it.
+impl Drop for Replica {
+    fn drop(self) {
+        let Replica {
+            received: _,
+            applied: _,
+            waiting: _,
+            alloc: _,
+        } = self;
+    }
 }
 
 impl Model for Replica {

@@ -24,12 +24,7 @@ use std::alloc::Global;
 
 /// The run of a schedule through a store of a source's program at the least levels, or what is wrong first: a fault of
 /// the source, one of the schedule, or why the program has no such levels.
-pub fn run(
-    alloc: Global,
-    form: Form,
-    source: &[u8],
-    schedule: &[u8],
-) -> Result<Reply, NoMemory>
+pub fn run(alloc: Global, form: Form, source: &[u8], schedule: &[u8]) -> Result<Reply, NoMemory>
     requires { length source.now < 2 ^ 32 }
     ensures { IfOk result
         (λ reply. RunSays (format_of form) source.now schedule.now reply.status reply.text.items) }

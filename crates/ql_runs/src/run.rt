@@ -18,11 +18,21 @@ use ql_typing::Typed;
 use std::alloc::Global;
 
 /// A store after the events of a schedule, with the reply to each and the names of the objects.
-#[derive(Drop)]
 pub struct Run<H: Holder> {
     pub store: Store<H>,
     pub replies: Vec<Reply>,
     pub objects: Names,
+}
+
+// Written out, so that a crate above proves one call for it.
+impl<H: Holder> Drop for Run<H> {
+    fn drop(self) {
+        let Run {
+            store: _,
+            replies: _,
+            objects: _,
+        } = self;
+    }
 }
 
 /// Runs the events of a schedule through a new store at these levels.

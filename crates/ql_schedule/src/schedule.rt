@@ -40,9 +40,15 @@ fn is_join(event: &Event) -> bool
 }
 
 /// A list of types.
-#[derive(Drop)]
 pub struct TypeIds {
     items: Vec<TypeId>,
+}
+
+// Written out, so that a crate above proves one call for it.
+impl Drop for TypeIds {
+    fn drop(self) {
+        let TypeIds { items: _ } = self;
+    }
 }
 
 impl Model for TypeIds {
@@ -70,7 +76,8 @@ impl TypeIds {
     pub fn into_items(self) -> Vec<TypeId>
         ensures { result.items ≡ self }
     {
-        self.items
+        let TypeIds { items } = self;
+        items
     }
 
     pub(crate) fn push(&mut self, item: TypeId) -> Result<(), NoMemory>
@@ -82,9 +89,15 @@ impl TypeIds {
 }
 
 /// A list of events.
-#[derive(Drop)]
 pub struct Events {
     items: Vec<Event>,
+}
+
+// Written out, so that a crate above proves one call for it.
+impl Drop for Events {
+    fn drop(self) {
+        let Events { items: _ } = self;
+    }
 }
 
 impl Model for Events {
@@ -112,7 +125,8 @@ impl Events {
     pub fn into_items(self) -> Vec<Event>
         ensures { result.items ≡ self }
     {
-        self.items
+        let Events { items } = self;
+        items
     }
 
     pub(crate) fn push(&mut self, item: Event) -> Result<(), NoMemory>

@@ -11,7 +11,6 @@ use ql_base::{NoMemory, ObjId, SessId};
 use std::alloc::Global;
 
 /// The lists that are kept for some notes: by session and object, by object, and by session.
-#[derive(Drop)]
 pub(crate) struct Index {
     // The effects by session and object.
     pub(crate) pairs: IndexMap<(u32, u32), Vec<u32>>,
@@ -19,6 +18,17 @@ pub(crate) struct Index {
     pub(crate) objects: Rows,
     // The stamps by session.
     pub(crate) stamps: Rows,
+}
+
+// Written out, so that a crate above proves one call for it.
+impl Drop for Index {
+    fn drop(self) {
+        let Index {
+            pairs: _,
+            objects: _,
+            stamps: _,
+        } = self;
+    }
 }
 
 impl Index {

@@ -17,10 +17,16 @@ use std::marker::Model;
 /// Besides the list, the effects are kept by session and object and by object, and the stamps by session,
 /// so no call goes over all notes. They take memory in proportion to the notes, and to the greatest session
 /// and object numbers that were noted.
-#[derive(Drop)]
 pub struct Sessions {
     notes: Vec<Note>,
     index: Index,
+}
+
+// Written out, so that a crate above proves one call for it.
+impl Drop for Sessions {
+    fn drop(self) {
+        let Sessions { notes: _, index: _ } = self;
+    }
 }
 
 impl Model for Sessions {

@@ -23,10 +23,19 @@ use std::marker::Model;
 /// The open transactions, with what each did, and how many have begun.
 ///
 /// A session has at most one open. Finding it takes one pass over the open transactions.
-#[derive(Drop)]
 pub struct Shim {
     running: Vec<Running>,
     begun: u32,
+}
+
+// Written out, so that a crate above proves one call for it.
+impl Drop for Shim {
+    fn drop(self) {
+        let Shim {
+            running: _,
+            begun: _,
+        } = self;
+    }
 }
 
 impl Model for Shim {

@@ -22,11 +22,7 @@ use std::alloc::Global;
 /// What is stable after the run of a schedule through a store of a source's program at the least levels, and what each
 /// replica answers, from what is left of the execution when the stable effects are kept; or what is wrong first: a fault of
 /// the source, one of the schedule, or why the program has no such levels.
-pub fn slim_run(
-    alloc: Global,
-    source: &[u8],
-    schedule: &[u8],
-) -> Result<Reply, NoMemory>
+pub fn slim_run(alloc: Global, source: &[u8], schedule: &[u8]) -> Result<Reply, NoMemory>
     requires { length source.now < 2 ^ 32 }
     ensures { IfOk result (λ reply. SlimSays source.now schedule.now reply.status reply.text.items) }
 {

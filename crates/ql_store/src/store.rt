@@ -46,7 +46,6 @@ use std::alloc::Global;
 use std::marker::Model;
 
 /// A replicated store, viewed as its levels and the state of the written machine.
-#[derive(Drop)]
 pub struct Store<H: Holder> {
     alloc: Global,
     levels: Levels,
@@ -55,6 +54,21 @@ pub struct Store<H: Holder> {
     net: Net,
     sessions: Sessions,
     shim: Shim,
+}
+
+// Written out, so that a crate above proves one call for it.
+impl<H: Holder> Drop for Store<H> {
+    fn drop(self) {
+        let Store {
+            alloc: _,
+            levels: _,
+            execution: _,
+            holders: _,
+            net: _,
+            sessions: _,
+            shim: _,
+        } = self;
+    }
 }
 
 impl<H: Holder> Model for Store<H> {

@@ -8,16 +8,28 @@ use std::marker::Model;
 
 /// What is kept of one object: some effects, and the state that their fold yields. If there are none, the state is
 /// meaningless.
-#[derive(Drop)]
 pub struct KeptObject {
     pub ids: IdSet,
     pub state: Env,
 }
 
+// Written out, so that a crate above proves one call for it.
+impl Drop for KeptObject {
+    fn drop(self) {
+        let KeptObject { ids: _, state: _ } = self;
+    }
+}
+
 /// What is kept of each object.
-#[derive(Drop)]
 pub struct Kept {
     objects: Vec<KeptObject>,
+}
+
+// Written out, so that a crate above proves one call for it.
+impl Drop for Kept {
+    fn drop(self) {
+        let Kept { objects: _ } = self;
+    }
 }
 
 impl Model for Kept {

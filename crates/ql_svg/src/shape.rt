@@ -37,9 +37,19 @@ pub enum Shape {
 }
 
 /// The dot of an effect: a circle around its point, with a text that is shown on hover.
-#[derive(Drop)]
 pub struct Dot {
     pub style: Style,
     pub at: Point,
     pub title: Vec<u8>,
+}
+
+// Written out, so that a crate above proves one call for it.
+impl Drop for Dot {
+    fn drop(self) {
+        let Dot {
+            style: _,
+            at: _,
+            title: _,
+        } = self;
+    }
 }

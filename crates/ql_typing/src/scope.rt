@@ -17,10 +17,16 @@ pub struct Known {
 }
 
 /// Names with their kinds, seen as their list. If a name is there twice, its first kind counts.
-#[derive(Drop)]
 pub struct Table {
     known: Vec<Known>,
     kinds: IndexMap<Word, Kind>,
+}
+
+// Written out, so that a crate above proves one call for it.
+impl Drop for Table {
+    fn drop(self) {
+        let Table { known: _, kinds: _ } = self;
+    }
 }
 
 impl Model for Table {

@@ -19,7 +19,6 @@ use std::alloc::Global;
 
 /// A well-typed program. Its types, operations and transactions have numbers from 0, in the order of the source;
 /// operations are counted over all types.
-#[derive(Drop)]
 pub struct Typed {
     pub program: Program,
     ops: Names,
@@ -29,6 +28,18 @@ pub struct Typed {
     ghost named: { ops ≡ op_words program.types },
     ghost of_ops: { ∥ map resolved_of op_formulas.items ≡ op_contracts program.types ∥₁ },
     ghost of_txns: { ∥ map resolved_of txn_formulas.items ≡ txn_contracts program ∥₁ },
+}
+
+// Written out, so that a crate above proves one call for it.
+impl Drop for Typed {
+    fn drop(self) {
+        let Typed {
+            program: _,
+            ops: _,
+            op_formulas: _,
+            txn_formulas: _,
+        } = self;
+    }
 }
 
 /// The program as a well-typed one, or its first fault: the one at the lowest source offset, and there of the lowest

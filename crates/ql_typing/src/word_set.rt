@@ -8,9 +8,15 @@ use std::marker::Model;
 
 /// Distinct words in the order of their first occurrence, seen as their list. There may be more of them than 32 bits
 /// can number.
-#[derive(Drop)]
 pub struct WordSet {
     words: IndexSet<Word>,
+}
+
+// Written out, so that a crate above proves one call for it.
+impl Drop for WordSet {
+    fn drop(self) {
+        let WordSet { words: _ } = self;
+    }
 }
 
 impl Model for WordSet {

@@ -4,9 +4,15 @@ ghost use Rattle.ql_value.specs.Texts.{IsText};
 use std::marker::Model;
 
 /// A text: at most 64 bytes, each of which is allowed between quotes. Seen as the list of its bytes.
-#[derive(Drop)]
 pub struct TextVal {
     bytes: Vec<u8>,
+}
+
+// Written out, so that a crate above proves one call for it.
+impl Drop for TextVal {
+    fn drop(self) {
+        let TextVal { bytes: _ } = self;
+    }
 }
 
 impl Model for TextVal {
@@ -42,7 +48,8 @@ impl TextVal {
         ensures same { result.items ≡ self }
         ensures text { IsText self }
     {
-        self.bytes
+        let TextVal { bytes } = self;
+        bytes
     }
 }
 

@@ -5,9 +5,15 @@ use crate::scalar::{Scalar, TextVal};
 use std::marker::Model;
 
 /// A set: at most 256 scalars, strictly ascending. Seen as the list of its elements.
-#[derive(Drop)]
 pub struct SetVal {
     elements: Vec<Scalar>,
+}
+
+// Written out, so that a crate above proves one call for it.
+impl Drop for SetVal {
+    fn drop(self) {
+        let SetVal { elements: _ } = self;
+    }
 }
 
 impl Model for SetVal {
@@ -45,15 +51,22 @@ impl SetVal {
         ensures same { result.items ≡ self }
         ensures set { IsSet self }
     {
-        self.elements
+        let SetVal { elements } = self;
+        elements
     }
 }
 
 /// A map: at most 256 pairs of a key and a value, strictly ascending by key. Seen as the list of its
 /// pairs.
-#[derive(Drop)]
 pub struct MapVal {
     entries: Vec<(Scalar, Scalar)>,
+}
+
+// Written out, so that a crate above proves one call for it.
+impl Drop for MapVal {
+    fn drop(self) {
+        let MapVal { entries: _ } = self;
+    }
 }
 
 impl Model for MapVal {
@@ -91,7 +104,8 @@ impl MapVal {
         ensures same { result.items ≡ self }
         ensures map { IsMap self }
     {
-        self.entries
+        let MapVal { entries } = self;
+        entries
     }
 }
 
@@ -107,9 +121,15 @@ pub enum Value {
 }
 
 /// A list of values.
-#[derive(Drop)]
 pub struct Values {
     items: Vec<Value>,
+}
+
+// Written out, so that a crate above proves one call for it.
+impl Drop for Values {
+    fn drop(self) {
+        let Values { items: _ } = self;
+    }
 }
 
 impl Model for Values {
@@ -140,6 +160,7 @@ impl Values {
     pub fn into_items(self) -> Vec<Value>
         ensures { result.items ≡ self }
     {
-        self.items
+        let Values { items } = self;
+        items
     }
 }

@@ -7,10 +7,19 @@ use std::alloc::Global;
 use std::marker::Model;
 
 /// A source with its tokens, seen as the source. A source with a fault has no tokens.
-#[derive(Drop)]
 pub struct Lexed<'a> {
     source: &'a [u8],
     tokens: Vec<Token>,
+}
+
+// Written out, so that a crate above proves one call for it.
+impl Drop for Lexed<'_> {
+    fn drop(self) {
+        let Lexed {
+            source: _,
+            tokens: _,
+        } = self;
+    }
 }
 
 impl<'a> Model for Lexed<'a> {

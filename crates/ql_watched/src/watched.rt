@@ -23,11 +23,20 @@ use ql_typing::Typed;
 use std::alloc::Global;
 
 /// A store after the events of a schedule, and what one replica received meanwhile.
-#[derive(Drop)]
 pub struct Watched<H: Holder> {
     pub store: Store<H>,
     /// The effects in the order in which they arrived; those of one event ascend.
     pub arrivals: Vec<u32>,
+}
+
+// Written out, so that a crate above proves one call for it.
+impl<H: Holder> Drop for Watched<H> {
+    fn drop(self) {
+        let Watched {
+            store: _,
+            arrivals: _,
+        } = self;
+    }
 }
 
 /// Runs the events of a schedule through a new store at these levels, and watches a replica. One that joins is watched

@@ -19,10 +19,7 @@ pub fn classify_with_reasons(alloc: Global, source: &[u8]) -> Result<Reply, NoMe
         Err(fault) => return bad_source(alloc, fault),
     };
     match ql_classify::classify(alloc, &typed) {
-        Ok(classified) => Ok(Reply::new(
-            Status::Done,
-            levels_with_reasons(alloc, &classified)?,
-        )),
+        Ok(classified) => Ok(Reply::new(Status::Done, levels_with_reasons(alloc, &classified)?)),
         Err(why) => refused_with_reason(alloc, &typed, why),
     }
 }
