@@ -39,7 +39,8 @@ pub fn outcome<S: Shelf>(
     ensures says { IfOk result (λ answered. Says limits (word_texts words.now) (S.held shelf.old)
         (S.faults shelf.old) (S.faults shelf.new) answered.reply.status answered.reply.text.items) }
     ensures lacking { (named : NamedRequest) → IsRequest (word_texts words.now) named
-        → IfOk result (λ answered. ReportsMissing (S.lacks shelf.old) named answered.reply.status answered.reply.text.items) }
+        → IfOk result (λ answered. ReportsMissing (S.lacks shelf.old) named answered.reply.status
+        answered.reply.text.items) }
     ensures same_contents { (other : List ℕ) → S.held shelf.new other ≡ S.held shelf.old other }
     ensures same_files { (other : List ℕ) → S.lacks shelf.new other ↔ S.lacks shelf.old other }
     ensures counts_stay { (other : List ℕ) → S.faults shelf.old other ≤ S.faults shelf.new other }
