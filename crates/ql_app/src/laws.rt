@@ -68,10 +68,11 @@ pub fn printed_runs_are_verified()
     printed_runs_hold();
 }
 
-/// Agreement, of the run whose text `run` prints with status 0: where every package was received, the replicas agree.
+/// Agreement, of the run that `run` or `run --json` prints with status 0: where every package was received, the replicas
+/// agree.
 pub fn replicas_agree_in_runs()
-    ensures { (source schedule text : List ℕ) (reported : PairSays (Run Text) source schedule Done text)
-        → AllArrived reported.prints.last
+    ensures { (form : Form) (source schedule text : List ℕ)
+        (reported : PairSays (Run form) source schedule Done text) → AllArrived reported.prints.last
         → Agree (rules_of reported.program reported.levels) reported.schedule.replicas reported.prints.last }
 {
     replicas_of_runs_agree();

@@ -8,7 +8,7 @@ use Rattle.ql_machine.specs.Calls.{IsCall}
 use Rattle.ql_machine.specs.Rules.{Call, Rules}
 use Rattle.ql_machine.specs.Sets.{AreThose}
 use Rattle.ql_machine.specs.State.{Machine, committed, received_at}
-use Rattle.ql_machine.specs.Views.{Applied}
+use Rattle.ql_machine.specs.Views.{Applied, InView}
 use Rattle.ql_machine_laws.specs.Promised.{IsPlain, at_replica}
 
 -- The first replicas of a state agree. A call outside any transaction and below strong is plain.
@@ -19,6 +19,8 @@ pub record Agree (rules : Rules) (replicas : ℕ) (s : Machine) : Type 0 where
   pub applied : (r : ℕ) → r < replicas → (a : ℕ) → Applied s r a ↔ (committed s.effects s.open_txns a ≡ true)
   -- a plain call is blocked at none of them
   pub not_blocked : (c : Call) → IsPlain rules s c → c.replica.0 < replicas → (a : EffId) (after : Machine) → IsCall rules s c after (Blocked a) → ⊥
-  -- and has the same effect and reply at each
+  -- sees the same effects at each
+  pub same_view : (c : Call) → IsPlain rules s c → (q r : ReplicaId) → q.0 < replicas → r.0 < replicas → (a : ℕ) → InView rules s (at_replica c q) a ↔ InView rules s (at_replica c r) a
+  -- and has the same answer: the same effect and reply
   pub same_effect : (c : Call) → IsPlain rules s c → (q r : ReplicaId) → q.0 < replicas → r.0 < replicas
       → (after other : Machine) (t u : Reply) → IsCall rules s (at_replica c q) after t → IsCall rules s (at_replica c r) other u → (after.effects ≡ other.effects) × (t ≡ u)

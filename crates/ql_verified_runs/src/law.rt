@@ -9,7 +9,8 @@ ghost use Rattle.ql_lang.specs.Formulas.{Resolved};
 ghost use Rattle.ql_machine_laws.specs.Promised.{AllArrived};
 ghost use Rattle.ql_printed_runs.specs.Printable.{IsPrintable};
 ghost use Rattle.ql_printed_runs.specs.Renumbered.{IsRenumbered};
-ghost use Rattle.ql_running.specs.Forms.{IsRunText};
+ghost use Rattle.ql_running.specs.declared.form.Form.{Form};
+ghost use Rattle.ql_running.specs.Forms.{IsRunText, format_of};
 ghost use Rattle.ql_running.specs.Runs.{ReportsRun};
 ghost use Rattle.ql_verified_runs.specs.Agreement.{Agree};
 
@@ -45,10 +46,10 @@ pub fn printed_runs_hold()
     printed_runs_are_read_again();
 }
 
-/// Agreement, of the run that a text shows: where every package was received, the replicas agree.
+/// Agreement, of the run that a text shows in either form: where every package was received, the replicas agree.
 pub fn replicas_of_runs_agree()
-    ensures { (source schedule text : List ℕ) (reported : ReportsRun IsRunText source schedule text)
-        → AllArrived reported.prints.last
+    ensures { (form : Form) (source schedule text : List ℕ)
+        (reported : ReportsRun (format_of form) source schedule text) → AllArrived reported.prints.last
         → Agree (rules_of reported.program reported.levels) reported.schedule.replicas reported.prints.last }
 {
     replicas_agree();
