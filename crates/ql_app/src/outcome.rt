@@ -13,7 +13,7 @@ use ql_commands::{check, classify, prove};
 use ql_generated::{generate, soak};
 use ql_judging::verify;
 use ql_ports::{ReadWhy, Shelf, read_whole};
-use ql_reply::{Answered, Reply, Status, unread};
+use ql_reply::{Answered, Cause, Reply, Status, unread};
 use ql_restart::restart_run;
 use ql_running::run;
 use ql_slimming::slim_run;
@@ -48,7 +48,14 @@ pub fn outcome<S: Shelf>(
     match parse_words(words) {
         None => {
             let text = Vec::from_slice(alloc, b"usage\n")?;
-            Ok(Answered::without_files(alloc, Reply::new(Status::Usage, text)))
+            Ok(Answered::without_files(
+                alloc,
+                Reply {
+                    status: Status::Usage,
+                    text,
+                    cause: Cause::Text,
+                },
+            ))
         }
         Some(Request::OneFile(command, name)) => of_file(alloc, command, shelf, name, limits),
         Some(Request::TwoFiles(command, name, other)) => {

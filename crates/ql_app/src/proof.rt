@@ -44,7 +44,11 @@ fn verdict_on(alloc: Global, clauses: &Clauses, refutation: &Refutation) -> Resu
     let mut marks = vec![in alloc; 0; clauses.variables() as usize + 1]?;
     let verdict = check(clauses, refutation, marks.as_mut_slice());
     match refusal(alloc, verdict)? {
-        None => Ok(Reply::new(Status::Done, Vec::from_slice(alloc, b"accepted\n")?)),
+        None => Ok(Reply {
+            status: Status::Done,
+            text: Vec::from_slice(alloc, b"accepted\n")?,
+            cause: Cause::Text,
+        }),
         Some(text) => Ok(Reply {
             status: Status::No,
             text,

@@ -12,7 +12,7 @@ use ql_classify::Finding;
 use ql_commands::{bad_source, read_source};
 use ql_explanation::{finding_at, findings, goal_of};
 use ql_line_files::{FileFault, read_file};
-use ql_reply::{Part, Reply, Rule, Status};
+use ql_reply::{Cause, Part, Reply, Rule, Status};
 use ql_typing::Typed;
 use std::alloc::Global;
 
@@ -47,7 +47,11 @@ fn against(alloc: Global, t: &Typed, stored: &[Stored]) -> Result<Reply, NoMemor
     } else {
         Status::No
     };
-    Ok(Reply::new(status, text))
+    Ok(Reply {
+        status,
+        text,
+        cause: Cause::Text,
+    })
 }
 
 fn rises(

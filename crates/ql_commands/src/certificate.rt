@@ -14,7 +14,7 @@ use ql_base::{DeclId, NoMemory, OpId, Word};
 use ql_cert::{SectionLevel, title_text, with_end, with_section};
 use ql_classify::Classified;
 use ql_levels::Levels;
-use ql_reply::{Reply, Status};
+use ql_reply::{Cause, Reply, Status};
 use ql_typing::Typed;
 use std::alloc::Global;
 
@@ -28,7 +28,11 @@ pub fn prove(alloc: Global, source: &[u8]) -> Result<Reply, NoMemory>
         Err(fault) => return bad_source(alloc, fault),
     };
     match ql_classify::classify(alloc, &typed) {
-        Ok(classified) => Ok(Reply::new(Status::Done, certificate(alloc, &classified)?)),
+        Ok(classified) => Ok(Reply {
+            status: Status::Done,
+            text: certificate(alloc, &classified)?,
+            cause: Cause::Text,
+        }),
         Err(why) => refusal(alloc, &typed, why),
     }
 }

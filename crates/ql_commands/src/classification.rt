@@ -5,7 +5,7 @@ use crate::refusals::refusal;
 use crate::source::read_source;
 use crate::source_fault::bad_source;
 use ql_base::NoMemory;
-use ql_reply::{Reply, Status};
+use ql_reply::{Cause, Reply, Status};
 use ql_report::print_levels;
 use std::alloc::Global;
 
@@ -19,10 +19,11 @@ pub fn classify(alloc: Global, source: &[u8]) -> Result<Reply, NoMemory>
         Err(fault) => return bad_source(alloc, fault),
     };
     match ql_classify::classify(alloc, &typed) {
-        Ok(classified) => Ok(Reply::new(
-            Status::Done,
-            print_levels(alloc, &typed, classified.levels())?,
-        )),
+        Ok(classified) => Ok(Reply {
+            status: Status::Done,
+            text: print_levels(alloc, &typed, classified.levels())?,
+            cause: Cause::Text,
+        }),
         Err(why) => refusal(alloc, &typed, why),
     }
 }

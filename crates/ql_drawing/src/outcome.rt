@@ -8,7 +8,7 @@ use crate::help::HELP;
 use crate::words::{Request, parse_words};
 use ql_base::{MAX_EXECUTION_BYTES, MAX_SCHEDULE_BYTES, NoMemory, push_bytes};
 use ql_ports::{Shelf, read_whole};
-use ql_reply::{Reply, Status, unread};
+use ql_reply::{Cause, Reply, Status, unread};
 use std::alloc::Global;
 
 // The greatest lengths of a run's text and of a schedule, in bytes.
@@ -30,7 +30,11 @@ pub fn outcome<S: Shelf>(
     ensures counts_stay { (other : List ℕ) → S.faults shelf.old other ≤ S.faults shelf.new other }
 {
     match parse_words(words) {
-        None => Ok(Reply::new(Status::Usage, Vec::from_slice(alloc, HELP.as_bytes())?)),
+        None => Ok(Reply {
+            status: Status::Usage,
+            text: Vec::from_slice(alloc, HELP.as_bytes())?,
+            cause: Cause::Text,
+        }),
         Some(request) => of_request(alloc, request, shelf),
     }
 }
@@ -105,8 +109,16 @@ fn answer(
         all: request.all,
     };
     match drawing_text(alloc, what) {
-        Ok(text) => Ok(Reply::new(Status::Done, text)),
-        Err(fault) => Ok(Reply::new(Status::Bad, fault_text(alloc, fault)?)),
+        Ok(text) => Ok(Reply {
+            status: Status::Done,
+            text,
+            cause: Cause::Text,
+        }),
+        Err(fault) => Ok(Reply {
+            status: Status::Bad,
+            text: fault_text(alloc, fault)?,
+            cause: Cause::Text,
+        }),
     }
 }
 

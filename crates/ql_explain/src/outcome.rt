@@ -11,7 +11,7 @@ use ql_baseline::compare;
 use ql_explain_json::explain_json;
 use ql_explanation::explain;
 use ql_ports::{ReadWhy, Shelf, read_whole};
-use ql_reply::{Answered, Reply, Status, unread};
+use ql_reply::{Answered, Cause, Reply, Status, unread};
 use std::alloc::Global;
 
 // The greatest length of a source and of a stored answer, in bytes.
@@ -33,7 +33,14 @@ pub(crate) fn outcome<S: Shelf>(
     match parse_words(words) {
         None => {
             let text = Vec::from_slice(alloc, HELP.as_bytes())?;
-            Ok(Answered::without_files(alloc, Reply::new(Status::Usage, text)))
+            Ok(Answered::without_files(
+                alloc,
+                Reply {
+                    status: Status::Usage,
+                    text,
+                    cause: Cause::Text,
+                },
+            ))
         }
         Some(Request::Explained(form, name)) => of_source(alloc, form, name, shelf),
         Some(Request::Compared(pair)) => of_pair(alloc, pair, shelf),

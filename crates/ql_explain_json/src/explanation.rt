@@ -9,7 +9,7 @@ use ql_base::NoMemory;
 use ql_classify::Finding;
 use ql_commands::{bad_source, read_source};
 use ql_explanation::{answer_of, finding_at, findings};
-use ql_reply::Reply;
+use ql_reply::{Cause, Reply};
 use ql_typing::Typed;
 use ql_warnings::Lexed;
 use serde_json::{Map, Value as Json, put};
@@ -29,7 +29,11 @@ pub fn explain_json(alloc: Global, source: &[u8]) -> Result<Reply, NoMemory>
     let lexed = Lexed::of(alloc, source)?;
     let targets = targets(alloc, &lexed, &typed, &findings)?;
     let text = line(alloc, targets)?;
-    Ok(Reply::new(answer_of(&typed, &findings), text))
+    Ok(Reply {
+        status: answer_of(&typed, &findings),
+        text,
+        cause: Cause::Text,
+    })
 }
 
 // The values of all targets.

@@ -10,7 +10,7 @@ use crate::uses::uses_of;
 use ql_base::{NoMemory, push_bytes};
 use ql_classify::Finding;
 use ql_commands::{bad_source, read_source};
-use ql_reply::Reply;
+use ql_reply::{Cause, Reply};
 use ql_typing::Typed;
 use ql_warnings::{Lexed, warnings};
 use std::alloc::Global;
@@ -28,7 +28,11 @@ pub fn explain(alloc: Global, source: &[u8]) -> Result<Reply, NoMemory>
     let findings = findings(alloc, &typed)?;
     let lexed = Lexed::of(alloc, source)?;
     let text = sections_of(alloc, &lexed, &typed, &findings)?;
-    Ok(Reply::new(answer_of(&typed, &findings), text))
+    Ok(Reply {
+        status: answer_of(&typed, &findings),
+        text,
+        cause: Cause::Text,
+    })
 }
 
 // The sections of all targets, with a blank line between them.

@@ -4,7 +4,7 @@ ghost use Rattle.ql_generated.specs.Schedules.{GenSays};
 use ql_base::NoMemory;
 use ql_commands::{bad_source, read_source};
 use ql_gen::schedule_of;
-use ql_reply::{Reply, Status};
+use ql_reply::{Cause, Reply, Status};
 use ql_schedule::print_schedule;
 use std::alloc::Global;
 
@@ -20,5 +20,9 @@ pub fn generate(alloc: Global, source: &[u8], number: u32, events: u32) -> Resul
         Err(fault) => return bad_source(alloc, fault),
     };
     let schedule = schedule_of(alloc, &typed, number, events)?;
-    Ok(Reply::new(Status::Done, print_schedule(alloc, &typed, &schedule)?))
+    Ok(Reply {
+        status: Status::Done,
+        text: print_schedule(alloc, &typed, &schedule)?,
+        cause: Cause::Text,
+    })
 }

@@ -8,7 +8,7 @@ use ql_base::NoMemory;
 use ql_commands::{bad_source, read_source, refusal};
 use ql_gen::schedule_of;
 use ql_levels::Levels;
-use ql_reply::{Reply, Status};
+use ql_reply::{Cause, Reply, Status};
 use ql_running::sound_run;
 use ql_typing::Typed;
 use std::alloc::Global;
@@ -25,10 +25,11 @@ pub fn soak(alloc: Global, source: &[u8], number: u32) -> Result<Reply, NoMemory
         Err(fault) => return bad_source(alloc, fault),
     };
     match ql_classify::classify(alloc, &typed) {
-        Ok(classified) => Ok(Reply::new(
-            Status::Done,
-            summary_of_run(alloc, &typed, classified.levels(), number)?,
-        )),
+        Ok(classified) => Ok(Reply {
+            status: Status::Done,
+            text: summary_of_run(alloc, &typed, classified.levels(), number)?,
+            cause: Cause::Text,
+        }),
         Err(why) => refusal(alloc, &typed, why),
     }
 }

@@ -38,7 +38,11 @@ fn verify_execution(alloc: Global, t: &Typed, x: &Execution) -> Result<Reply, No
     ensures { IfOk result (λ reply. ExecutionSays t.now.program x.now reply.status reply.text.items) }
 {
     match ql_verify::verify(alloc, t, x) {
-        Ok(None) => Ok(Reply::new(Status::Done, Vec::from_slice(alloc, b"holds\n")?)),
+        Ok(None) => Ok(Reply {
+            status: Status::Done,
+            text: Vec::from_slice(alloc, b"holds\n")?,
+            cause: Cause::Text,
+        }),
         Ok(Some(breach)) => Ok(Reply {
             status: Status::No,
             text: breach_line(alloc, t, x, &breach)?,

@@ -1,6 +1,6 @@
 -- What follows of a reply, case by case.
 use Rattle.std.proofs.Common.{◌≡◌, inl, inr, ℕ, ◌≤◌, List, ◌++◌, Option, Result, Ok, Err, codes, arith, refl, subst, sym}
-use Rattle.std.specs.Prelude.{IfOk}
+use Rattle.std.specs.Prelude.{IfOk, OnOk}
 use Rattle.ql_base.specs.declared.no_memory.NoMemory.{NoMemory}
 use Rattle.ql_ports.specs.Faults.{Rose}
 use Rattle.ql_ports.specs.Written.{appended}
@@ -91,3 +91,16 @@ pub answer_unread : (P : Status → List ℕ → Type 0) (name : List ℕ) (erro
     → IfOk answer (λ x. P x.status x.text.items)
 answer_unread P name error (Ok x) is failed long = of_unread P name error x.status x.text.items is (failed x.text.items) (long x.text.items)
 answer_unread P name error (Err e) is failed long = tt
+
+module _ (P : Status → List ℕ → Type 0) (Q : List ℕ → Type 0) (status : Status) where
+  -- what is so of a text with a status is so of a reply that has both
+  pub replied : (answer : Result Reply NoMemory) → ((text : List ℕ) → Q text → P status text)
+      → IfOk answer (λ r. r.status ≡ status) → IfOk answer (λ r. Q r.text.items) → IfOk answer (λ r. P r.status r.text.items)
+  replied (Ok r) may same is = subst (λ s. P s r.text.items) (sym same) (may r.text.items is)
+  replied (Err e) may same is = tt
+
+  -- and where something is known once there is a reply
+  pub replied_once : (K : Type 0) (answer : Result Reply NoMemory) → ((text : List ℕ) → K → Q text → P status text)
+      → IfOk answer (λ r. r.status ≡ status) → IfOk answer (λ r. Q r.text.items) → OnOk answer K → IfOk answer (λ r. P r.status r.text.items)
+  replied_once K (Ok r) may same is known = subst (λ s. P s r.text.items) (sym same) (may r.text.items known is)
+  replied_once K (Err e) may same is known = tt

@@ -64,18 +64,6 @@ impl Reply {
     ghost use Rattle.ql_reply.specs.Lines.{fault_line, part_name, rule_name};
     ghost use Rattle.ql_reply.specs.declared.status.Status.TheVariants.{Bad};
 
-    /// An answer whose text says all.
-    pub fn new(status: Status, text: Vec<u8>) -> Reply
-        ensures status { result.status ≡ status }
-        ensures text { result.text ≡ text }
-    {
-        Reply {
-            status,
-            text,
-            cause: Cause::Text,
-        }
-    }
-
     /// The answer on a file whose first fault is at this offset of a source, or in this line of another file.
     pub fn bad(alloc: Global, part: Part, at: u64, rule: Rule) -> Result<Reply, NoMemory>
         ensures status { IfOk result (λ reply. reply.status ≡ Bad) }

@@ -1,7 +1,7 @@
 ghost use Rattle.std.specs.Prelude.{◌≡◌, ◌++◌, IfOk, codes};
 ghost use Rattle.ql_reply.specs.Unread.{IsUnread};
 
-use crate::reply::Reply;
+use crate::reply::{Cause, Reply};
 use crate::status::Status;
 use ql_base::{NoMemory, push_bytes};
 use ql_ports::ReadWhy;
@@ -12,8 +12,16 @@ pub fn unread(alloc: Global, error: ReadWhy, name: &str) -> Result<Reply, NoMemo
     ensures { IfOk result (λ answer. IsUnread error name.now answer.status answer.text.items) }
 {
     match error {
-        ReadWhy::Failed => Ok(Reply::new(Status::ReadFault, named(alloc, b"read fault ", name)?)),
-        ReadWhy::TooLong => Ok(Reply::new(Status::TooLarge, named(alloc, b"too large ", name)?)),
+        ReadWhy::Failed => Ok(Reply {
+            status: Status::ReadFault,
+            text: named(alloc, b"read fault ", name)?,
+            cause: Cause::Text,
+        }),
+        ReadWhy::TooLong => Ok(Reply {
+            status: Status::TooLarge,
+            text: named(alloc, b"too large ", name)?,
+            cause: Cause::Text,
+        }),
         ReadWhy::NoMemory => Err(NoMemory),
     }
 }

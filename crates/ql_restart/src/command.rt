@@ -10,7 +10,7 @@ ghost use Rattle.ql_restart.specs.Restarts.{RestartSays, ReportsRestart};
 use crate::recovered::print_recovered;
 use ql_base::{NoMemory, ReplicaId, push_bytes, push_number};
 use ql_replica::Replica;
-use ql_reply::{Reply, Status};
+use ql_reply::{Cause, Reply, Status};
 use ql_running::{RunInput, read_run_input};
 use ql_watched::watched_run;
 use std::alloc::Global;
@@ -35,10 +35,18 @@ pub fn restart_run(
     };
     let replicas = input.schedule.last_replicas();
     if replica >= replicas {
-        return Ok(Reply::new(Status::No, no_replica(alloc, replica)?));
+        return Ok(Reply {
+            status: Status::No,
+            text: no_replica(alloc, replica)?,
+            cause: Cause::Text,
+        });
     }
     let text = text_of(alloc, input, ReplicaId(replica), cut)?;
-    Ok(Reply::new(Status::Done, text))
+    Ok(Reply {
+        status: Status::Done,
+        text,
+        cause: Cause::Text,
+    })
 }
 
 // The text for a replica.

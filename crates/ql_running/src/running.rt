@@ -16,7 +16,7 @@ use crate::store_run::sound_run;
 use ql_base::{Names, NoMemory};
 use ql_exec::Execution;
 use ql_levels::Levels;
-use ql_reply::{Reply, Status};
+use ql_reply::{Cause, Reply, Status};
 use ql_run_json::json_run;
 use ql_run_text::print_run;
 use ql_typing::Typed;
@@ -30,7 +30,11 @@ pub fn run(alloc: Global, form: Form, source: &[u8], schedule: &[u8]) -> Result<
         (λ reply. RunSays (format_of form) source.now schedule.now reply.status reply.text.items) }
 {
     match read_run_input(alloc, source, schedule)? {
-        Ok(input) => Ok(Reply::new(Status::Done, text_of(alloc, form, input)?)),
+        Ok(input) => Ok(Reply {
+            status: Status::Done,
+            text: text_of(alloc, form, input)?,
+            cause: Cause::Text,
+        }),
         Err(reply) => Ok(reply),
     }
 }

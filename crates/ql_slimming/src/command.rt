@@ -12,7 +12,7 @@ use crate::answers::{Left, push_answers};
 use crate::keeping::{keep_stable, kept_effects};
 use ql_base::{NoMemory, TypeId, push_bytes, push_number};
 use ql_replica::Replica;
-use ql_reply::{Reply, Status};
+use ql_reply::{Cause, Reply, Status};
 use ql_running::{RunInput, read_run_input, sound_run};
 use ql_runs::Run;
 use ql_summary::slim;
@@ -27,7 +27,11 @@ pub fn slim_run(alloc: Global, source: &[u8], schedule: &[u8]) -> Result<Reply, 
     ensures { IfOk result (λ reply. SlimSays source.now schedule.now reply.status reply.text.items) }
 {
     match read_run_input(alloc, source, schedule)? {
-        Ok(input) => Ok(Reply::new(Status::Done, text_of(alloc, input)?)),
+        Ok(input) => Ok(Reply {
+            status: Status::Done,
+            text: text_of(alloc, input)?,
+            cause: Cause::Text,
+        }),
         Err(reply) => Ok(reply),
     }
 }

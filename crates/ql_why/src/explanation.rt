@@ -5,7 +5,7 @@ use crate::refusal::refused_with_reason;
 use crate::targets::levels_with_reasons;
 use ql_base::NoMemory;
 use ql_commands::{bad_source, read_source};
-use ql_reply::{Reply, Status};
+use ql_reply::{Cause, Reply, Status};
 use std::alloc::Global;
 
 /// The least levels of a source's operations and transactions, or what fails first. After each target's line stands a
@@ -19,7 +19,11 @@ pub fn classify_with_reasons(alloc: Global, source: &[u8]) -> Result<Reply, NoMe
         Err(fault) => return bad_source(alloc, fault),
     };
     match ql_classify::classify(alloc, &typed) {
-        Ok(classified) => Ok(Reply::new(Status::Done, levels_with_reasons(alloc, &classified)?)),
+        Ok(classified) => Ok(Reply {
+            status: Status::Done,
+            text: levels_with_reasons(alloc, &classified)?,
+            cause: Cause::Text,
+        }),
         Err(why) => refused_with_reason(alloc, &typed, why),
     }
 }
