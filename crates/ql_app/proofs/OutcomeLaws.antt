@@ -15,6 +15,7 @@ use Rattle.ql_app.specs.declared.words.PairCommand.{PairCommand}
 use Rattle.ql_app.specs.declared.words.PairCommand.TheVariants.{Check, Verify, Run, Slim, Restart}
 use Rattle.ql_app.specs.Words.{OneFile, TwoFiles}
 use Rattle.ql_app.specs.Outcome.{CommandSays, PairSays, RequestSays, second_limit}
+use Rattle.ql_reply.specs.declared.ended.Answered.{Answered}
 use Rattle.ql_reply.specs.Read.{IsRead}
 use Rattle.ql_reply.specs.Unread.{IsUnread}
 use Rattle.ql_reply.proofs.Replies.{answer_unread}
@@ -29,7 +30,8 @@ read : (limit : ℕ) (bytes : List ℕ) (held : Option (List ℕ)) (P : List ℕ
 read limit bytes held P same short p = record { bytes = bytes; are_held = same; short = short; is_so = p }
 
 module _ (limits : Limits) (held : List ℕ → Option (List ℕ)) (before after : List ℕ → ℕ) where
-  one : (command : Command) (name bytes : List ℕ) (status : Status) (text : List ℕ)
+  -- the answer of a command on one file
+  pub one : (command : Command) (name bytes : List ℕ) (status : Status) (text : List ℕ)
       → IfSome (held name) (λ whole. bytes ≡ whole) → length bytes ≤ limits.file → CommandSays command bytes status text → RequestSays limits held before after (OneFile command name) status text
   one command name bytes Done text same short says = read limits.file bytes (held name) (λ b. CommandSays command b Done text) same short says
   one command name bytes No text same short says = read limits.file bytes (held name) (λ b. CommandSays command b No text) same short says
@@ -57,13 +59,6 @@ module _ (limits : Limits) (held : List ℕ → Option (List ℕ)) (before after
   one (Soak number) name bytes Usage text same short says = absurd says
   one command name bytes TooLarge text same short says = inl (read limits.file bytes (held name) (λ b. CommandSays command b TooLarge text) same short says)
 
-  -- the answer of a command on one file
-  pub one_answer : (command : Command) (name bytes : List ℕ) (answer : Result (Status × Vec ℕ) NoMemory)
-      → IfSome (held name) (λ whole. bytes ≡ whole) → length bytes ≤ limits.file → IfOk answer (λ a. CommandSays command bytes a.0 a.1.items)
-      → IfOk answer (λ a. RequestSays limits held before after (OneFile command name) a.0 a.1.items)
-  one_answer command name bytes (Ok a) same short says = one command name bytes a.0 a.1.items same short says
-  one_answer command name bytes (Err e) same short says = tt
-
   both : (command : PairCommand) (name other bytes more : List ℕ) (status : Status) (text : List ℕ)
       → IfSome (held name) (λ whole. bytes ≡ whole) → length bytes ≤ limits.file → IfSome (held other) (λ whole. more ≡ whole) → length more ≤ second_limit limits command
       → PairSays command bytes more status text → IsRead limits.file (held name) (λ b. IsRead (second_limit limits command) (held other) (λ m. PairSays command b m status text))
@@ -71,7 +66,8 @@ module _ (limits : Limits) (held : List ℕ → Option (List ℕ)) (before after
       read limits.file bytes (held name) (λ b. IsRead (second_limit limits command) (held other) (λ m. PairSays command b m status text)) same short
       (read (second_limit limits command) more (held other) (λ m. PairSays command bytes m status text) also few says)
 
-  two : (command : PairCommand) (name other bytes more : List ℕ) (status : Status) (text : List ℕ)
+  -- and on two
+  pub two : (command : PairCommand) (name other bytes more : List ℕ) (status : Status) (text : List ℕ)
       → IfSome (held name) (λ whole. bytes ≡ whole) → length bytes ≤ limits.file → IfSome (held other) (λ whole. more ≡ whole) → length more ≤ second_limit limits command
       → PairSays command bytes more status text → RequestSays limits held before after (TwoFiles command name other) status text
   two command name other bytes more Done text same short also few says = both command name other bytes more Done text same short also few says
@@ -94,16 +90,9 @@ module _ (limits : Limits) (held : List ℕ → Option (List ℕ)) (before after
   two (Restart replica cut) name other bytes more Usage text same short also few says = absurd says
   two command name other bytes more TooLarge text same short also few says = inl (both command name other bytes more TooLarge text same short also few says)
 
-  -- and on two
-  pub two_answers : (command : PairCommand) (name other bytes more : List ℕ) (answer : Result (Status × Vec ℕ) NoMemory)
-      → IfSome (held name) (λ whole. bytes ≡ whole) → length bytes ≤ limits.file → IfSome (held other) (λ whole. more ≡ whole) → length more ≤ second_limit limits command
-      → IfOk answer (λ a. PairSays command bytes more a.0 a.1.items) → IfOk answer (λ a. RequestSays limits held before after (TwoFiles command name other) a.0 a.1.items)
-  two_answers command name other bytes more (Ok a) same short also few says = two command name other bytes more a.0 a.1.items same short also few says
-  two_answers command name other bytes more (Err e) same short also few says = tt
-
   -- a file that couldn't be read whole
-  pub one_unread : (command : Command) (name : List ℕ) (error : ReadWhy) (answer : Result (Status × Vec ℕ) NoMemory) → IfOk answer (λ a. IsUnread error name a.0 a.1.items)
+  pub one_unread : (command : Command) (name : List ℕ) (error : ReadWhy) (answer : Result Answered NoMemory) → IfOk answer (λ a. IsUnread error name a.reply.status a.reply.text.items)
       → (error ≡ Failed → Rose (before name) (after name)) → (error ≡ TooLong → IfSome (held name) (λ bytes. limits.file < length bytes))
-      → IfOk answer (λ a. RequestSays limits held before after (OneFile command name) a.0 a.1.items)
+      → IfOk answer (λ a. RequestSays limits held before after (OneFile command name) a.reply.status a.reply.text.items)
   one_unread command name error answer is f l =
-      answer_unread (RequestSays limits held before after (OneFile command name)) name error answer is (λ text e says. (f e, says)) (λ text e says. inr (l e, says))
+      answer_unread (λ a. a.reply.status) (λ a. a.reply.text.items) (RequestSays limits held before after (OneFile command name)) name error answer is (λ text e says. (f e, says)) (λ text e says. inr (l e, says))

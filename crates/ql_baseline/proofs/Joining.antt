@@ -6,6 +6,7 @@ use Rattle.std.specs.List.{concat}
 use Rattle.std.specs.Prelude.{IfOk}
 use Rattle.std.specs.Global.{Vec}
 use Rattle.ql_base.specs.declared.no_memory.NoMemory.{NoMemory}
+use Rattle.ql_reply.specs.declared.reply.Reply.{Reply}
 use Rattle.ql_reply.specs.declared.status.Status.{Status}
 use Rattle.ql_reply.specs.declared.status.Status.TheVariants.{Done, No, Bad, ReadFault, WriteFault, Usage, TooLarge}
 use Rattle.ql_commands.specs.Sources.{IsSourceOf}
@@ -35,6 +36,6 @@ module _ (source baseline : List ℕ) (p : Program) (stored : List Stored) (of :
   compared Usage text is = absurd is
   compared TooLarge text is = absurd is
 
-  pub compared_said : (said : Result (Status × Vec ℕ) NoMemory) → IfOk said (λ x. IsComparison p stored x.0 x.1.items) → IfOk said (λ x. BaselineSays source baseline x.0 x.1.items)
-  compared_said (Ok x) is = compared x.0 x.1.items is
+  pub compared_said : (said : Result Reply NoMemory) → IfOk said (λ x. IsComparison p stored x.status x.text.items) → IfOk said (λ x. BaselineSays source baseline x.status x.text.items)
+  compared_said (Ok x) is = compared x.status x.text.items is
   compared_said (Err e) is = tt

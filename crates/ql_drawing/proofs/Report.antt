@@ -10,6 +10,7 @@ use Rattle.ql_drawing.specs.Outcomes.{IsAnswer, IsOf, Reports, limit_of}
 use Rattle.ql_reply.specs.Unread.{IsUnread}
 use Rattle.ql_reply.proofs.Replies.{answer_unread, rose_before}
 use Rattle.ql_drawing.specs.Words.{Asked}
+use Rattle.ql_reply.specs.declared.reply.Reply.{Reply}
 use Rattle.ql_reply.specs.declared.status.Status.{Status}
 use Rattle.ql_reply.specs.declared.status.Status.TheVariants.{Done, No, Bad, ReadFault, WriteFault, Usage, TooLarge}
 
@@ -24,17 +25,17 @@ module _ (held : List ℕ → Option (List ℕ)) (before after : List ℕ → �
   of_answer TooLarge text is = absurd is
 
   -- the files were read
-  pub one_answer : (answer : Result (Status × Vec ℕ) NoMemory) → IfOk answer (λ x. IsAnswer x.0 x.1.items) → IfOk answer (λ x. Reports held before after a x.0 x.1.items)
-  one_answer (Ok x) is = of_answer x.0 x.1.items is
+  pub one_answer : (answer : Result Reply NoMemory) → IfOk answer (λ x. IsAnswer x.status x.text.items) → IfOk answer (λ x. Reports held before after a x.status x.text.items)
+  one_answer (Ok x) is = of_answer x.status x.text.items is
   one_answer (Err e) is = tt
 
   -- a file couldn't be read whole
-  pub one_unread : (name : List ℕ) (limit : ℕ) → IsOf a name → limit_of a name limit → (error : ReadWhy) (answer : Result (Status × Vec ℕ) NoMemory)
-      → IfOk answer (λ x. IsUnread error name x.0 x.1.items)
+  pub one_unread : (name : List ℕ) (limit : ℕ) → IsOf a name → limit_of a name limit → (error : ReadWhy) (answer : Result Reply NoMemory)
+      → IfOk answer (λ x. IsUnread error name x.status x.text.items)
       → (error ≡ Failed → Rose (before name) (after name)) → (error ≡ TooLong → IfSome (held name) (λ bytes. limit < length bytes))
-      → IfOk answer (λ x. Reports held before after a x.0 x.1.items)
+      → IfOk answer (λ x. Reports held before after a x.status x.text.items)
   one_unread name limit of most error answer is f l =
-      answer_unread (Reports held before after a) name error answer is (λ text e says. (name, of, f e, says)) (λ text e says. (name, limit, most, l e, says))
+      answer_unread (λ x. x.status) (λ x. x.text.items) (Reports held before after a) name error answer is (λ text e says. (name, of, f e, says)) (λ text e says. (name, limit, most, l e, says))
 
 -- what is said after a file was read is said of both
 sooner : (held later : List ℕ → Option (List ℕ)) (before between after : List ℕ → ℕ) (a : Asked) → ((n : List ℕ) → later n ≡ held n) → ((n : List ℕ) → before n ≤ between n)
@@ -47,8 +48,8 @@ sooner held later before between after a same less WriteFault text is = absurd i
 sooner held later before between after a same less Usage text is = absurd is
 sooner held later before between after a same less TooLarge text is = (is.0, is.1, is.2, subst (λ (h : Option (List ℕ)). IfSome h (λ bytes. is.1 < length bytes)) (same is.0) is.3, is.4)
 
-pub said_sooner : (held later : List ℕ → Option (List ℕ)) (before between after : List ℕ → ℕ) (a : Asked) (answer : Result (Status × Vec ℕ) NoMemory)
+pub said_sooner : (held later : List ℕ → Option (List ℕ)) (before between after : List ℕ → ℕ) (a : Asked) (answer : Result Reply NoMemory)
     → ((n : List ℕ) → later n ≡ held n) → ((n : List ℕ) → before n ≤ between n)
-    → IfOk answer (λ x. Reports later between after a x.0 x.1.items) → IfOk answer (λ x. Reports held before after a x.0 x.1.items)
-said_sooner held later before between after a (Ok x) same less is = sooner held later before between after a same less x.0 x.1.items is
+    → IfOk answer (λ x. Reports later between after a x.status x.text.items) → IfOk answer (λ x. Reports held before after a x.status x.text.items)
+said_sooner held later before between after a (Ok x) same less is = sooner held later before between after a same less x.status x.text.items is
 said_sooner held later before between after a (Err e) same less is = tt

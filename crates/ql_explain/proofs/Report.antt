@@ -8,6 +8,7 @@ use Rattle.ql_ports.specs.declared.whole.ReadWhy.{ReadWhy}
 use Rattle.ql_ports.specs.declared.whole.ReadWhy.TheVariants.{Failed, TooLong}
 use Rattle.ql_baseline.specs.Comparison.{BaselineSays}
 use Rattle.ql_explain.specs.Outcomes.{IsOf, Means, SaysIn, SaysOf, Reports, most_bytes}
+use Rattle.ql_reply.specs.declared.ended.Answered.{Answered}
 use Rattle.ql_reply.specs.Read.{IsRead}
 use Rattle.ql_reply.specs.Unread.{IsUnread}
 use Rattle.ql_reply.proofs.Replies.{answer_unread, no_usage, rose_before}
@@ -58,36 +59,35 @@ module _ (held : List ℕ → Option (List ℕ)) (before after : List ℕ → �
 
   one_answer : (Says : Status → List ℕ → Type 0) → ((status : Status) (text : List ℕ) → Says status text → IsAnswered status)
       → ((status : Status) (text : List ℕ) → Says status text → Means held call status text)
-      → (said : Result (Status × Vec ℕ) NoMemory) → IfOk said (λ x. Says x.0 x.1.items) → IfOk said (λ x. Reports held before after call x.0 x.1.items)
-  one_answer Says answered means (Ok x) says = of_answer x.0 x.1.items (answered x.0 x.1.items says) (means x.0 x.1.items says)
-  one_answer Says answered means (Err error) is = tt
+      → (status : Status) (text : List ℕ) → Says status text → Reports held before after call status text
+  one_answer Says answered means status text says = of_answer status text (answered status text says) (means status text says)
 
   -- a file couldn't be read whole
-  pub one_unread : (name : List ℕ) → IsOf call name → (error : ReadWhy) (said : Result (Status × Vec ℕ) NoMemory) → IfOk said (λ x. IsUnread error name x.0 x.1.items)
+  pub one_unread : (name : List ℕ) → IsOf call name → (error : ReadWhy) (said : Result Answered NoMemory) → IfOk said (λ x. IsUnread error name x.reply.status x.reply.text.items)
       → (error ≡ Failed → Rose (before name) (after name)) → (error ≡ TooLong → IfSome (held name) (λ bytes. 1048576 < length bytes))
-      → IfOk said (λ x. Reports held before after call x.0 x.1.items)
+      → IfOk said (λ x. Reports held before after call x.reply.status x.reply.text.items)
   one_unread name of error said is f l =
-      answer_unread (Reports held before after call) name error said is (λ text e says. (name, of, f e, says)) (λ text e says. (name, of, l e, says))
+      answer_unread (λ x. x.reply.status) (λ x. x.reply.text.items) (Reports held before after call) name error said is (λ text e says. (name, of, f e, says)) (λ text e says. (name, of, l e, says))
 
 module _ (held : List ℕ → Option (List ℕ)) (before after : List ℕ → ℕ) where
   -- a source was read
   pub source_said : (form : Form) (name bytes source : List ℕ) → source ≡ bytes → IfSome (held name) (λ whole. bytes ≡ whole) → length bytes ≤ most_bytes
-      → (said : Result (Status × Vec ℕ) NoMemory) → IfOk said (λ x. SaysIn form source x.0 x.1.items) → IfOk said (λ x. Reports held before after (Explained form name) x.0 x.1.items)
-  source_said form name bytes source e same short said is =
+      → (status : Status) (text : List ℕ) → SaysIn form source status text → Reports held before after (Explained form name) status text
+  source_said form name bytes source e same short status text is =
       one_answer held before after (Explained form name) (SaysIn form source) (source_answered form source)
-      (λ a text says. record { bytes = bytes; are_held = same; short = short; is_so = subst (λ b. SaysIn form b a text) e says }) said is
+      (λ a text says. record { bytes = bytes; are_held = same; short = short; is_so = subst (λ b. SaysIn form b a text) e says }) status text is
 
   -- a stored answer and a source were read
   pub pair_said : (file name baseline bytes source : List ℕ) → source ≡ bytes → IfSome (held file) (λ whole. baseline ≡ whole) → length baseline ≤ most_bytes → IfSome (held name) (λ whole. bytes ≡ whole) → length bytes ≤ most_bytes
-      → (said : Result (Status × Vec ℕ) NoMemory) → IfOk said (λ x. BaselineSays source baseline x.0 x.1.items) → IfOk said (λ x. Reports held before after (Compared file name) x.0 x.1.items)
-  pair_said file name baseline bytes source e stored long same short said is =
+      → (status : Status) (text : List ℕ) → BaselineSays source baseline status text → Reports held before after (Compared file name) status text
+  pair_said file name baseline bytes source e stored long same short status text is =
       one_answer held before after (Compared file name) (BaselineSays source baseline) (pair_answered source baseline)
       (λ a text says. record {
         bytes = baseline;
         are_held = stored;
         short = long;
         is_so = record { bytes = bytes; are_held = same; short = short; is_so = subst (λ s. BaselineSays s baseline a text) e says };
-      }) said is
+      }) status text is
 
 -- what is said after a file was read is said of both
 module _ (held later : List ℕ → Option (List ℕ)) (before between after : List ℕ → ℕ) (file name : List ℕ) (same : (n : List ℕ) → later n ≡ held n) (less : (n : List ℕ) → before n ≤ between n) where
@@ -104,9 +104,9 @@ module _ (held later : List ℕ → Option (List ℕ)) (before between after : L
   sooner Usage text is = absurd is
   sooner TooLarge text is = (is.0, is.1, subst (λ (h : Option (List ℕ)). IfSome h (λ bytes. 1048576 < length bytes)) (same is.0) is.2, is.3)
 
-  pub said_sooner : (said : Result (Status × Vec ℕ) NoMemory) → IfOk said (λ x. Reports later between after (Compared file name) x.0 x.1.items)
-      → IfOk said (λ x. Reports held before after (Compared file name) x.0 x.1.items)
-  said_sooner (Ok x) is = sooner x.0 x.1.items is
+  pub said_sooner : (said : Result Answered NoMemory) → IfOk said (λ x. Reports later between after (Compared file name) x.reply.status x.reply.text.items)
+      → IfOk said (λ x. Reports held before after (Compared file name) x.reply.status x.reply.text.items)
+  said_sooner (Ok x) is = sooner x.reply.status x.reply.text.items is
   said_sooner (Err e) is = tt
 
 -- what the shelf tells is the same later

@@ -84,13 +84,13 @@ of_unread P name NoReadMemory Usage text is failed long = absurd is
 of_unread P name NoReadMemory TooLarge text is failed long = absurd is
 
 -- and so of an answer, which out of memory isn't there
-pub answer_unread : (P : Status → List ℕ → Type 0) (name : List ℕ) (error : ReadWhy) (answer : Result Reply NoMemory)
-    → IfOk answer (λ x. IsUnread error name x.status x.text.items)
+pub answer_unread : {X : Type 0} (status_in : X → Status) (text_in : X → List ℕ) (P : Status → List ℕ → Type 0) (name : List ℕ) (error : ReadWhy) (answer : Result X NoMemory)
+    → IfOk answer (λ x. IsUnread error name (status_in x) (text_in x))
     → ((text : List ℕ) → error ≡ Failed → text ≡ codes "read fault " ++ name ++ codes "\n" → P ReadFault text)
     → ((text : List ℕ) → error ≡ TooLong → text ≡ codes "too large " ++ name ++ codes "\n" → P TooLarge text)
-    → IfOk answer (λ x. P x.status x.text.items)
-answer_unread P name error (Ok x) is failed long = of_unread P name error x.status x.text.items is (failed x.text.items) (long x.text.items)
-answer_unread P name error (Err e) is failed long = tt
+    → IfOk answer (λ x. P (status_in x) (text_in x))
+answer_unread status_in text_in P name error (Ok x) is failed long = of_unread P name error (status_in x) (text_in x) is (failed (text_in x)) (long (text_in x))
+answer_unread status_in text_in P name error (Err e) is failed long = tt
 
 module _ (P : Status → List ℕ → Type 0) (Q : List ℕ → Type 0) (status : Status) where
   -- what is so of a text with a status is so of a reply that has both

@@ -1,13 +1,14 @@
 use Rattle.std.proofs.Common.{Err, ap, arith}
-use Rattle.ql_app.proofs.OutcomeLaws.{one_answer, one_unread}
+use Rattle.ql_app.proofs.OutcomeLaws.{one, one_unread}
 use Rattle.ql_app.proofs.outcome.of_file.Goals as goal
 
-pub returns-in-Ok-clause-says : goal.returns-in-Ok-clause-says
-returns-in-Ok-clause-says g c =
-    one_answer c.args.limits (g.S.Shelf.held c.args.shelf.now) (g.S.Shelf.faults c.args.shelf.now) (g.S.Shelf.faults c.read_whole.new.shelf)
-    c.args.command c.args.name.now c.in-Ok.bytes.items c.answer_command.result c.in-Ok.ensures.whole (omega (arith, c.in-Ok.bytes.ok.0, c.in-Ok.ensures.in_limit)) (rw c.as_slice.ensures.value at c.answer_command.ensures)
+pub returns-in_ok-answer_command-in-Ok-clause-says : goal.returns-in_ok-answer_command-in-Ok-clause-says
+returns-in_ok-answer_command-in-Ok-clause-says g c =
+    let reply = c.in_ok-answer_command-in-Ok.field-0 in
+    one c.args.limits (g.S.Shelf.held c.args.shelf.now) (g.S.Shelf.faults c.args.shelf.now) (g.S.Shelf.faults c.read_whole.new.shelf)
+    c.args.command c.args.name.now c.in-Ok.first.items reply.status reply.text.items c.in-Ok.ensures.whole (omega (arith, c.in-Ok.first.ok.0, c.in-Ok.ensures.in_limit)) (rw c.as_slice.ensures.value at c.in_ok-answer_command-in-Ok.ensures)
 
 pub returns-in-Err-clause-says : goal.returns-in-Err-clause-says
 returns-in-Err-clause-says g c =
     one_unread c.args.limits (g.S.Shelf.held c.args.shelf.now) (g.S.Shelf.faults c.args.shelf.now) (g.S.Shelf.faults c.read_whole.new.shelf)
-    c.args.command c.args.name.now c.in-Err.error c.unread.result c.unread.ensures (λ is. c.in-Err.ensures.failed (ap Err is)) (λ is. c.in-Err.ensures.too_long (ap Err is))
+    c.args.command c.args.name.now c.in-Err.error c.without_file.result c.without_file.ensures (λ is. c.in-Err.ensures.failed (ap Err is)) (λ is. c.in-Err.ensures.too_long (ap Err is))

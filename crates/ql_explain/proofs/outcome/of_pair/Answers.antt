@@ -8,13 +8,10 @@ use Rattle.ql_explain.proofs.outcome.of_pair.Goals as goal
 pub with_baseline-requires-clause-held : goal.with_baseline-requires-clause-held
 with_baseline-requires-clause-held g c =
     let file = c.args.pair.baseline.now in
-    let held = g.S.Shelf.held c.read_whole.new.shelf file in
-    subst (λ (b : List ℕ). IfSome held (λ whole. b ≡ whole)) (sym c.deref.ensures.value)
-    (still_whole (g.S.Shelf.held c.args.shelf.now file) held c.in-Ok.baseline.items (c.in-Ok.ensures.same_contents file) c.in-Ok.ensures.whole)
+    still_whole (g.S.Shelf.held c.args.shelf.now file) (g.S.Shelf.held c.read_whole.new.shelf file) c.in-Ok.baseline.items (c.in-Ok.ensures.same_contents file) c.in-Ok.ensures.whole
 
 pub with_baseline-requires-clause-short : goal.with_baseline-requires-clause-short
-with_baseline-requires-clause-short g c =
-    subst (λ (b : List ℕ). length b ≤ most_bytes) (sym c.deref.ensures.value) (omega (arith, c.in-Ok.baseline.ok.0, c.in-Ok.ensures.in_limit))
+with_baseline-requires-clause-short g c = omega (arith, c.in-Ok.baseline.ok.0, c.in-Ok.ensures.in_limit)
 
 pub returns-in-Ok-clause-says : goal.returns-in-Ok-clause-says
 returns-in-Ok-clause-says g c =
@@ -24,4 +21,4 @@ returns-in-Ok-clause-says g c =
 pub returns-in-Err-clause-says : goal.returns-in-Err-clause-says
 returns-in-Err-clause-says g c =
     one_unread (g.S.Shelf.held c.args.shelf.now) (g.S.Shelf.faults c.args.shelf.now) (g.S.Shelf.faults c.read_whole.new.shelf) (Compared c.args.pair.baseline.now c.args.pair.source.now) c.args.pair.baseline.now (inl refl)
-    c.in-Err.error c.unread.result c.unread.ensures (λ is. c.in-Err.ensures.failed (ap Err is)) (λ is. c.in-Err.ensures.too_long (ap Err is))
+    c.in-Err.error c.without_file.result c.without_file.ensures (λ is. c.in-Err.ensures.failed (ap Err is)) (λ is. c.in-Err.ensures.too_long (ap Err is))

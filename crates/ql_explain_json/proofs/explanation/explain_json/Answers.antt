@@ -3,7 +3,8 @@ use Rattle.serde_json.specs.View.{view}
 use Rattle.ql_explanation.specs.Explanation.{AreFindings}
 use Rattle.ql_explanation.proofs.Judged.{explained}
 use Rattle.ql_explain_json.proofs.Floats.{targets_none}
-use Rattle.ql_explain_json.specs.JsonExplanations.{IsJsonExplanation}
+use Rattle.ql_commands.proofs.Refusals.{bad_said}
+use Rattle.ql_explain_json.specs.JsonExplanations.{ExplainJsonSays, IsJsonExplanation}
 use Rattle.ql_explain_json.proofs.explanation.explain_json.Goals as goal
 
 pub line-requires : goal.line-requires
@@ -14,3 +15,7 @@ returns c =
     let p = c.in-Ok.typed.program in
     explained IsJsonExplanation c.args.source.now c.in_ok-text.text.items p c.answer_of.result c.in-Ok.ensures.source c.answer_of.ensures
     (c.deref.result.now, subst (AreFindings p) (sym c.deref.ensures.value) c.in_ok-findings.ensures, map view c.in_ok-targets.targets.items, rw (← c.in_ok-lexed.ensures) c.in_ok-targets.ensures, c.in_ok-text.ensures)
+
+pub returns-in-Err : goal.returns-in-Err
+returns-in-Err c =
+    bad_said (ExplainJsonSays c.args.source.now) c.bad_source.result c.args.source.now c.in-Err.fault (λ text bad. bad) c.in-Err.ensures.fault c.in-Err.ensures.none c.bad_source.ensures.status c.bad_source.ensures.text

@@ -1,16 +1,16 @@
-use Rattle.ql_commands.proofs.NamedTargets.{first_fails, refusal_names_targets}
+use Rattle.ql_commands.proofs.NamedTargets.{refusal_names_targets}
+use Rattle.ql_commands.proofs.Refusals.{bad_said, refused_said}
+use Rattle.ql_generated.specs.Soaks.{SoakSays}
 use Rattle.ql_generated.proofs.soaking.soak.Goals as goal
 
 pub refusal-requires : goal.refusal-requires
 refusal-requires c = refusal_names_targets c.in-Ok.typed.program c.in-Err-classify.why c.in-Err-classify.ensures.refused
 
-pub returns : goal.returns
-returns c = (
-  c.in-Ok.typed.program,
-  c.in-Ok.ensures.source,
-  (
-    c.in-Err-classify.why,
-    first_fails c.in-Ok.typed.program c.in-Err-classify.why c.in-Err-classify.ensures.refused c.in_ok-refusal-in-Err-classify.ensures.known,
-    c.in_ok-refusal-in-Err-classify.ensures.text,
-  ),
-)
+pub returns-in-Err : goal.returns-in-Err
+returns-in-Err c =
+    bad_said (SoakSays c.args.source.now c.args.number) c.bad_source.result c.args.source.now c.in-Err.fault (λ text bad. bad) c.in-Err.ensures.fault c.in-Err.ensures.none c.bad_source.ensures.status c.bad_source.ensures.text
+
+pub returns-in-Err-classify : goal.returns-in-Err-classify
+returns-in-Err-classify c =
+    let p = c.in-Ok.typed.program in
+    refused_said (SoakSays c.args.source.now c.args.number) c.refusal.result p c.in-Err-classify.why (λ text says. (p, c.in-Ok.ensures.source, says)) c.in-Err-classify.ensures.refused c.refusal.ensures.status c.refusal.ensures.text c.refusal.ensures.known

@@ -1,0 +1,7 @@
+use Rattle.ql_commands.proofs.Refusals.{bad_said}
+use Rattle.ql_generated.specs.Schedules.{GenSays}
+use Rattle.ql_generated.proofs.generation.generate.Goals as goal
+
+pub returns-in-Err : goal.returns-in-Err
+returns-in-Err c =
+    bad_said (GenSays c.args.source.now c.args.number c.args.events) c.bad_source.result c.args.source.now c.in-Err.fault (λ text bad. bad) c.in-Err.ensures.fault c.in-Err.ensures.none c.bad_source.ensures.status c.bad_source.ensures.text
