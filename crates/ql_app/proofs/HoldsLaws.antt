@@ -1,7 +1,6 @@
 -- what is said of holds files
 use Rattle.std.proofs.Common.{◌≡◌, ◌↔◌, ◌<◌, List, ℕ, Result, Ok, Err, codes, arith, ap, refl, sym, subst, ◌∙◌}
 use Rattle.std.specs.Prelude.{IfOk}
-use Rattle.std.specs.Global.{Vec}
 use Rattle.ql_base.specs.declared.limits.TheConstants.{MAX_WORK}
 use Rattle.ql_base.specs.declared.no_memory.NoMemory.{NoMemory as NoMemoryLeft}
 use Rattle.ql_lines.specs.Lines.{Ahead, ahead_from, texts_of}
@@ -18,6 +17,7 @@ use Rattle.ql_holds_grammar.specs.Grammar.{HoldsTree, IsHoldsFile}
 use Rattle.ql_holds_grammar.specs.Questions.{IsQuestionOf}
 use Rattle.ql_holds_grammar.specs.TreeRules.{HasCurrent, KeepsRules}
 use Rattle.ql_reply.specs.Lines.{fault_line}
+use Rattle.ql_reply.specs.declared.reply.Reply.{Reply}
 use Rattle.ql_reply.specs.declared.status.Status.{Status}
 use Rattle.ql_reply.specs.declared.status.Status.TheVariants.{Done, No, Bad, ReadFault, WriteFault, Usage, TooLarge}
 use Rattle.ql_app.specs.HoldsFaults.{IsReportedAs, holds_fault_text}
@@ -121,13 +121,13 @@ is_reported one are_read question bytes asked WriteFault text asks said = absurd
 is_reported one are_read question bytes asked Usage text asks said = absurd said
 
 -- and so of the answer
-pub answer_reported : OneOutcome → AreSpelled → AreRead → OneQuestion → (bytes : List ℕ) (asked : Asked) (answer : Result (Status × Vec ℕ) NoMemoryLeft)
+pub answer_reported : OneOutcome → AreSpelled → AreRead → OneQuestion → (bytes : List ℕ) (asked : Asked) (answer : Result Reply NoMemoryLeft)
     → HoldsOutcome (ahead_from 1 bytes) (Ok asked)
-    → IfOk answer (λ a. HoldsReports asked a.0 a.1.items) → IfOk answer (λ a. HoldsSays bytes a.0 a.1.items)
+    → IfOk answer (λ a. HoldsReports asked a.status a.text.items) → IfOk answer (λ a. HoldsSays bytes a.status a.text.items)
 answer_reported one are_spelled are_read question bytes asked (Ok a) asks said =
-    is_reported one are_read question bytes asked a.0 a.1.items (are_spelled (ahead_from 1 bytes) asked asks) said
+    is_reported one are_read question bytes asked a.status a.text.items (are_spelled (ahead_from 1 bytes) asked asks) said
 answer_reported one are_spelled are_read question bytes asked (Err e) asks said = tt
 
 -- a line that reports a fault, by another name of it
-pub reported_so : (line : Result (Vec ℕ) NoMemoryLeft) (f fault : HoldsFault) → fault ≡ f → IfOk line (λ l. IsReportedAs f l.items) → IfOk line (λ l. IsReportedAs fault l.items)
-reported_so line f fault e h = subst (λ g. IfOk line (λ l. IsReportedAs g l.items)) (sym e) h
+pub reported_so : (answer : Result Reply NoMemoryLeft) (f fault : HoldsFault) → fault ≡ f → IfOk answer (λ a. IsReportedAs f a.text.items) → IfOk answer (λ a. IsReportedAs fault a.text.items)
+reported_so answer f fault e h = subst (λ g. IfOk answer (λ a. IsReportedAs g a.text.items)) (sym e) h

@@ -2,29 +2,29 @@ use Rattle.ql_holds_files.specs.declared.holds_fault.HoldsFault.TheVariants.{Une
 use Rattle.ql_app.proofs.HoldsLaws.{reported_so}
 use Rattle.ql_app.proofs.holds.bad_holds.Goals as goal
 
-pub returns-in-Unexpected : goal.returns-in-Unexpected
-returns-in-Unexpected c = reported_so c.bad_line.result (Unexpected c.in-Unexpected.line) c.args.fault c.in-Unexpected.is c.bad_line.ensures
+pub returns-in-Unexpected-clause-text : goal.returns-in-Unexpected-clause-text
+returns-in-Unexpected-clause-text c = reported_so c.bad.result (Unexpected c.in-Unexpected.line) c.args.fault c.in-Unexpected.is c.bad.ensures.text
 
-pub returns-in-Unknown : goal.returns-in-Unknown
-returns-in-Unknown c = reported_so c.bad_line-in-Unknown.result (Unknown c.in-Unknown.line) c.args.fault c.in-Unknown.is c.bad_line-in-Unknown.ensures
+pub returns-in-Unknown-clause-text : goal.returns-in-Unknown-clause-text
+returns-in-Unknown-clause-text c = reported_so c.bad-in-Unknown.result (Unknown c.in-Unknown.line) c.args.fault c.in-Unknown.is c.bad-in-Unknown.ensures.text
 
-pub returns-in-Twice : goal.returns-in-Twice
-returns-in-Twice c = reported_so c.bad_line-in-Twice.result (Twice c.in-Twice.line) c.args.fault c.in-Twice.is c.bad_line-in-Twice.ensures
+pub returns-in-Twice-clause-text : goal.returns-in-Twice-clause-text
+returns-in-Twice-clause-text c = reported_so c.bad-in-Twice.result (Twice c.in-Twice.line) c.args.fault c.in-Twice.is c.bad-in-Twice.ensures.text
 
-pub returns-in-TxnAtom : goal.returns-in-TxnAtom
-returns-in-TxnAtom c = reported_so c.bad_line-in-TxnAtom.result (TxnAtom c.in-TxnAtom.line) c.args.fault c.in-TxnAtom.is c.bad_line-in-TxnAtom.ensures
+pub returns-in-TxnAtom-clause-text : goal.returns-in-TxnAtom-clause-text
+returns-in-TxnAtom-clause-text c = reported_so c.bad-in-TxnAtom.result (TxnAtom c.in-TxnAtom.line) c.args.fault c.in-TxnAtom.is c.bad-in-TxnAtom.ensures.text
 
-pub returns-in-Variables : goal.returns-in-Variables
-returns-in-Variables c = reported_so c.bad_line-in-Variables.result (Variables c.in-Variables.line) c.args.fault c.in-Variables.is c.bad_line-in-Variables.ensures
+pub returns-in-Variables-clause-text : goal.returns-in-Variables-clause-text
+returns-in-Variables-clause-text c = reported_so c.bad-in-Variables.result (Variables c.in-Variables.line) c.args.fault c.in-Variables.is c.bad-in-Variables.ensures.text
 
-pub returns-in-Range : goal.returns-in-Range
-returns-in-Range c = reported_so c.bad_line-in-Range.result (Range c.in-Range.line) c.args.fault c.in-Range.is c.bad_line-in-Range.ensures
+pub returns-in-Range-clause-text : goal.returns-in-Range-clause-text
+returns-in-Range-clause-text c = reported_so c.bad-in-Range.result (Range c.in-Range.line) c.args.fault c.in-Range.is c.bad-in-Range.ensures.text
 
-pub returns-in-NotForward : goal.returns-in-NotForward
-returns-in-NotForward c = reported_so c.bad_line-in-NotForward.result (NotForward c.in-NotForward.line) c.args.fault c.in-NotForward.is c.bad_line-in-NotForward.ensures
+pub returns-in-NotForward-clause-text : goal.returns-in-NotForward-clause-text
+returns-in-NotForward-clause-text c = reported_so c.bad-in-NotForward.result (NotForward c.in-NotForward.line) c.args.fault c.in-NotForward.is c.bad-in-NotForward.ensures.text
 
-pub returns-in-OtherObject : goal.returns-in-OtherObject
-returns-in-OtherObject c = reported_so c.bad_line-in-OtherObject.result (OtherObject c.in-OtherObject.line) c.args.fault c.in-OtherObject.is c.bad_line-in-OtherObject.ensures
+pub returns-in-OtherObject-clause-text : goal.returns-in-OtherObject-clause-text
+returns-in-OtherObject-clause-text c = reported_so c.bad-in-OtherObject.result (OtherObject c.in-OtherObject.line) c.args.fault c.in-OtherObject.is c.bad-in-OtherObject.ensures.text
 
-pub returns-in-TooMany : goal.returns-in-TooMany
-returns-in-TooMany c = reported_so c.bad_line-in-TooMany.result (TooMany c.in-TooMany.line) c.args.fault c.in-TooMany.is c.bad_line-in-TooMany.ensures
+pub returns-in-TooMany-clause-text : goal.returns-in-TooMany-clause-text
+returns-in-TooMany-clause-text c = reported_so c.bad-in-TooMany.result (TooMany c.in-TooMany.line) c.args.fault c.in-TooMany.is c.bad-in-TooMany.ensures.text

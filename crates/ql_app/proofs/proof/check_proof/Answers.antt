@@ -1,13 +1,12 @@
-use Rattle.ql_cert.specs.declared.fault.CertFault.TheVariants.{Unexpected, Number}
+use Rattle.std.proofs.Common.{◌≡◌, List, ℕ}
+use Rattle.ql_reply.specs.declared.status.Status.TheVariants.{Bad}
+use Rattle.ql_reply.proofs.Replies.{replied}
+use Rattle.ql_app.specs.ProofFile.{ProofSays, proof_fault_text}
 use Rattle.ql_app.proofs.ProofLaws.{is_bad}
 use Rattle.ql_app.proofs.proof.check_proof.Goals as goal
 
-pub returns-in_ok-bad_line-in-Err-Unexpected : goal.returns-in_ok-bad_line-in-Err-Unexpected
-returns-in_ok-bad_line-in-Err-Unexpected c =
-    is_bad c.args.bytes.now (Unexpected c.in-Err-Unexpected.line) c.in_ok-bad_line-in-Err-Unexpected.field-0.items
-    (rw c.in-Err-Unexpected.field-0-is at c.in-Err-Unexpected.ensures) c.in_ok-bad_line-in-Err-Unexpected.ensures
-
-pub returns-in_ok-bad_line-in-Err-Number : goal.returns-in_ok-bad_line-in-Err-Number
-returns-in_ok-bad_line-in-Err-Number c =
-    is_bad c.args.bytes.now (Number c.in-Err-Number.line) c.in_ok-bad_line-in-Err-Number.field-0.items
-    (rw c.in-Err-Number.field-0-is at c.in-Err-Number.ensures) c.in_ok-bad_line-in-Err-Number.ensures
+pub returns-in-Err : goal.returns-in-Err
+returns-in-Err c =
+    let f = c.in-Err.fault in
+    replied (ProofSays c.args.bytes.now) (λ text. text ≡ proof_fault_text f) Bad c.bad_proof.result
+    (λ text is. is_bad c.args.bytes.now f text c.in-Err.ensures is) c.bad_proof.ensures.status c.bad_proof.ensures.text
