@@ -10,4 +10,4 @@ pub mod Report
 pub mod SameProblems
 pub mod Accepted
 pub mod SmallBodies
-pub mod Refusals
+pub mod SourceReplies

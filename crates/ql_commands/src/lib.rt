@@ -9,16 +9,16 @@ mod judgement;
 mod laws;
 mod order;
 mod refusals;
-mod refused;
 mod section_lines;
 mod source;
 mod source_fault;
+mod verdicts;
 
 pub use certificate::prove;
 pub use classification::classify;
 pub use judgement::check;
 pub use laws::what_is_proved_is_accepted;
 pub use refusals::refusal;
-pub use refused::refused;
 pub use source::read_source;
 pub use source_fault::{SourceFault, bad_source};
+pub use verdicts::refused;

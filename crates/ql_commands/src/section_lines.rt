@@ -5,7 +5,7 @@ ghost use Rattle.ql_reply.specs.Causes.{IsNoFault};
 ghost use Rattle.ql_commands.specs.Check.{Reports, goal_of, refusal_end, section_text, target_of, expected_targets, verdict_text};
 ghost use Rattle.ql_commands.specs.Judging.{AreExpectedFrom, IsVerdictOn};
 
-use crate::refused::refused;
+use crate::verdicts::refused;
 use ql_base::{DeclId, NoMemory, OpId, push_bytes, push_number};
 use ql_cert::{Section, SectionLevel};
 use ql_ground::{Goal, problem};

@@ -3,7 +3,7 @@ use Rattle.std.proofs.lemmas.Result.{IfOk-weaker}
 use Rattle.ql_reply.specs.declared.status.Status.TheVariants.{Bad}
 use Rattle.ql_reply.proofs.Replies.{replied}
 use Rattle.ql_commands.specs.Check.{CheckSays, cert_fault_text}
-use Rattle.ql_commands.proofs.Refusals.{bad_said}
+use Rattle.ql_commands.proofs.SourceReplies.{bad_said}
 use Rattle.ql_commands.proofs.Report.{cert_is_bad, check_says}
 use Rattle.ql_commands.proofs.judgement.check.Goals as goal
 

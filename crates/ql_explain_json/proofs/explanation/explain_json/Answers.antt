@@ -3,7 +3,7 @@ use Rattle.serde_json.specs.View.{view}
 use Rattle.ql_explanation.specs.Explanation.{AreFindings}
 use Rattle.ql_explanation.proofs.Judged.{explained}
 use Rattle.ql_explain_json.proofs.Floats.{targets_none}
-use Rattle.ql_commands.proofs.Refusals.{bad_said}
+use Rattle.ql_commands.proofs.SourceReplies.{bad_said}
 use Rattle.ql_explain_json.specs.JsonExplanations.{ExplainJsonSays, IsJsonExplanation}
 use Rattle.ql_explain_json.proofs.explanation.explain_json.Goals as goal
 

@@ -1,4 +1,4 @@
-use Rattle.ql_commands.proofs.Refusals.{bad_said}
+use Rattle.ql_commands.proofs.SourceReplies.{bad_said}
 use Rattle.ql_generated.specs.Schedules.{GenSays}
 use Rattle.ql_generated.proofs.generation.generate.Goals as goal
 

@@ -1,5 +1,5 @@
 use Rattle.ql_commands.proofs.NamedTargets.{refusal_names_targets}
-use Rattle.ql_commands.proofs.Refusals.{bad_said, refused_said}
+use Rattle.ql_commands.proofs.SourceReplies.{bad_said, refused_said}
 use Rattle.ql_generated.specs.Soaks.{SoakSays}
 use Rattle.ql_generated.proofs.soaking.soak.Goals as goal
 
@@ -10,7 +10,7 @@ pub returns-in-Err : goal.returns-in-Err
 returns-in-Err c =
     bad_said (SoakSays c.args.source.now c.args.number) c.bad_source.result c.args.source.now c.in-Err.fault (λ text bad. bad) c.in-Err.ensures.fault c.in-Err.ensures.none c.bad_source.ensures.status c.bad_source.ensures.text
 
-pub returns-in-Err-classify : goal.returns-in-Err-classify
-returns-in-Err-classify c =
+pub returns : goal.returns
+returns c =
     let p = c.in-Ok.typed.program in
     refused_said (SoakSays c.args.source.now c.args.number) c.refusal.result p c.in-Err-classify.why (λ text says. (p, c.in-Ok.ensures.source, says)) c.in-Err-classify.ensures.refused c.refusal.ensures.status c.refusal.ensures.text c.refusal.ensures.known

@@ -2,7 +2,7 @@ use Rattle.std.proofs.Common.{subst}
 use Rattle.ql_classify.specs.Targets.{goals_at}
 use Rattle.ql_classify.specs.Least.{AreLevelsOf}
 use Rattle.ql_lang.specs.declared.program.Program.{Program}
-use Rattle.ql_commands.proofs.Refusals.{bad_said}
+use Rattle.ql_commands.proofs.SourceReplies.{bad_said}
 use Rattle.ql_why.specs.Why.{InTurn, ReportsTarget, WhySays}
 use Rattle.ql_why.proofs.explanation.classify_with_reasons.Goals as goal
 

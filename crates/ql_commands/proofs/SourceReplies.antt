@@ -3,7 +3,7 @@ use Rattle.std.proofs.Common.{◌≡◌, ◌≢◌, ℕ, List, Some, Result}
 use Rattle.std.specs.Prelude.{IfOk, OnOk}
 use Rattle.ql_base.specs.declared.no_memory.NoMemory.{NoMemory}
 use Rattle.ql_classify.specs.Outcome.{IsRefusal, all_tests}
-use Rattle.ql_classify.specs.declared.classless.Classless as classless
+use Rattle.ql_classify.specs.declared.classless.Classless.TheVariants as classless
 use Rattle.ql_classify.specs.declared.classless.Classless.{Classless}
 use Rattle.ql_lang.specs.declared.program.Program.{Program}
 use Rattle.ql_reply.specs.declared.reply.Reply.{Reply}
