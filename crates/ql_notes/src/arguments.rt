@@ -102,13 +102,11 @@ pub(crate) fn push_misfit(said: &mut Text, line: &Line, k: usize) {
         return push_counts(said, name, taken, given);
     }
     let number = k.saturating_sub(ARGUMENT);
+    let found = row(ARTICLES, kind_of(line.field(k)));
+    let expected = row(ARTICLES, base(line.source, op, number));
     said.push_counted(
         b"found %, expected %: this is argument # of `%`",
-        &[
-            row(ARTICLES, kind_of(line.field(k))),
-            row(ARTICLES, base(line.source, op, number)),
-            name,
-        ],
+        &[found, expected, name],
         &[number.saturating_add(1) as u64],
     );
 }
