@@ -45,7 +45,10 @@ pub(crate) fn push_syntax(
     push_found(note, word, is_line);
     push_terminals(alloc, note, &terminals, is_line)?;
     note.push(b"\n");
-    if is_keyword(word) && is_among(&terminals, b"x") {
+    if is_keyword(word)
+        && is_among(&terminals, b"x")
+        && !has_word(b"not forall false and or", word)
+    {
         note.push_filled(b"  `%` is a keyword, so it can't be a name\n", &[word]);
     }
     Ok(())
