@@ -104,9 +104,10 @@ pub(crate) fn push_misfit(said: &mut Text, line: &Line, k: usize) {
     let number = k.saturating_sub(ARGUMENT);
     let found = row(ARTICLES, kind_of(line.field(k)));
     let expected = row(ARTICLES, base(line.source, op, number));
+    said.push_filled(b"found %, expected %: ", &[found, expected]);
     said.push_counted(
-        b"found %, expected %: this is argument # of `%`",
-        &[found, expected, name],
+        b"this is argument # of `%`",
+        &[name],
         &[number.saturating_add(1) as u64],
     );
 }
