@@ -3,7 +3,7 @@
 use crate::pieces::{last_of, part_of, piece, piece_before};
 use crate::text::Text;
 use crate::words::{is, row};
-use ql_base::{is_digit, is_name};
+use ql_base::is_name;
 
 // By the token that isn't allowed, in a contract.
 const IN_CONTRACTS: &str =
@@ -38,18 +38,10 @@ pub(crate) fn push_advice(note: &mut Text, tokens: &[&[u8]], k: usize) {
         note.push(b"  ");
         note.push(advice);
         note.push(b"\n");
-    } else if is(word, b".") && ends_number(before) {
+    } else if is(word, b".") && matches!(before.first(), Some(b'0'..=b'9')) {
         note.push(b"  numbers are whole: there are no fractions\n");
     } else if is_contract && is_name(before) && !is_quantified(tokens, k) {
         push_name_advice(note, word, before);
-    }
-}
-
-// Whether a word is a number.
-fn ends_number(word: &[u8]) -> bool {
-    match word.last() {
-        Some(byte) => is_digit(*byte),
-        None => false,
     }
 }
 

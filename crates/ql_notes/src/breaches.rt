@@ -239,7 +239,16 @@ fn push_range(said: &mut Text, line: &Line, k: usize) {
     let groups = line.fields.len().saturating_sub(1) as u64;
     let bound = word_of(row(GREATEST, line.field(0)), k.saturating_sub(1));
     if matches!(line.part, Part::Holds) {
-        push_effects(said, counts_of(line.file.text).effects)
+        let effects = counts_of(line.file.text).effects;
+        said.push_counted(
+            if effects == 0 {
+                b"the file has no effects"
+            } else {
+                b"the effects here are 1 to #"
+            },
+            &[],
+            &[effects],
+        );
     } else if line.begins(b"partition") && groups != replicas {
         said.push_counted(
             b"a partition lists one group for each replica: # listed, # expected",
@@ -254,16 +263,6 @@ fn push_range(said: &mut Text, line: &Line, k: usize) {
     } else {
         said.push(row(RANGES, line.field(0)))
     }
-}
-
-// Appends which effects a file of `holds` has.
-fn push_effects(said: &mut Text, effects: u64) {
-    let sentence: &[u8] = if effects == 0 {
-        b"the file has no effects"
-    } else {
-        b"the effects here are 1 to #"
-    };
-    said.push_counted(sentence, &[], &[effects]);
 }
 
 // The name that occurs twice: of an object, or among those that a line `begin` lists, at most 16.

@@ -7,7 +7,7 @@ use crate::forms::push_form_fault;
 use crate::pieces::anywhere;
 use crate::text::Text;
 use crate::words::{find_line, is, is_line_start, line_with, without_return, word_of};
-use ql_base::{NoMemory, is_digit, number_of};
+use ql_base::{NoMemory, number_of};
 use ql_excerpt::{File, Spot, line_of, place_of_line};
 use ql_reply::{Fault, Part, Rule};
 use std::alloc::Global;
@@ -192,34 +192,19 @@ pub(crate) fn counts_of(text: &[u8]) -> Above {
         is_ended: false,
     };
     for k in 0..text.len() {
-        if is_line_start(text, k) {
-            let first = word_of(line_of(&text[k..]), 0);
-            if !first.is_empty() && !first.starts_with(b"#") {
-                above = above.and(first);
-            }
+        if !is_line_start(text, k) {
+            continue;
+        }
+        let first = word_of(line_of(&text[k..]), 0);
+        if !matches!(first.first(), None | Some(b'#')) {
+            let is_numbered = matches!(first.first(), Some(b'0'..=b'9'));
+            above.lines = above.lines.saturating_add(1);
+            above.effects = above.effects.saturating_add(is(first, b"effect") as u64);
+            above.numbered = above.numbered.saturating_add(1) * is_numbered as u64;
+            above.joins = above.joins.saturating_add(is(first, b"join") as u64);
+            above.has_events |= is(first, b"events");
+            above.is_ended |= is(first, b"end");
         }
     }
     above
-}
-
-impl Above {
-    // Counts one more line, by its first word.
-    fn and(self, first: &[u8]) -> Above {
-        let is_numbered = match first.first() {
-            Some(byte) => is_digit(*byte),
-            None => false,
-        };
-        Above {
-            lines: self.lines.saturating_add(1),
-            effects: self.effects.saturating_add(is(first, b"effect") as u64),
-            numbered: if is_numbered {
-                self.numbered.saturating_add(1)
-            } else {
-                0
-            },
-            joins: self.joins.saturating_add(is(first, b"join") as u64),
-            has_events: self.has_events || is(first, b"events"),
-            is_ended: self.is_ended || is(first, b"end"),
-        }
-    }
 }

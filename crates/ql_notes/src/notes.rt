@@ -3,7 +3,7 @@
 use crate::contracts::push_absent_operations;
 use crate::lines::push_line_fault;
 use crate::pieces::{nth_of, pieces, tokens_of};
-use crate::refusals::{Source, push_order, push_refusal};
+use crate::refusals::{push_order, push_refusal};
 use crate::sources::{Reading, push_source_fault};
 use crate::text::Text;
 use crate::usage::push_usage;
@@ -110,10 +110,6 @@ fn push_verdict(
         before: 0,
         from: 0,
     };
-    let named = Source {
-        name: first.name,
-        tokens: source.pieces,
-    };
     let last = if is_alone { first } else { second };
     let of_execution = if is_alone { None } else { Some(&source) };
     match cause {
@@ -128,8 +124,8 @@ fn push_verdict(
             nth_of(source.pieces, b"transaction", txn.0 as u64),
         ),
         Cause::StrongInTxn(txn, op) => push_strong(note, &source, txn.0 as u64, op.0 as u64),
-        Cause::Order(number) => push_order(note, last, named, number),
-        Cause::Refused(refused) => push_refusal(note, last, named, refused),
+        Cause::Order(number) => push_order(note, last, &source, number),
+        Cause::Refused(refused) => push_refusal(note, last, &source, refused),
         Cause::FailsAt(number) => push_failing(note, last, of_execution, number, false),
         Cause::FailsIn(number) => push_failing(note, last, of_execution, number, true),
         Cause::Holds => push_absent_operations(alloc, note, first)?,

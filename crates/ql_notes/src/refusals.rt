@@ -1,6 +1,7 @@
 // Notes on a certificate or a proof that is refused: the section, the line, and what can be done.
 
-use crate::pieces::{anywhere, nth_of, piece_after};
+use crate::pieces::{nth_of, piece_after};
+use crate::sources::Reading;
 use crate::text::Text;
 use crate::words::{has_word, is, is_line_start, row, without_return, word_of};
 use ql_base::number_of;
@@ -14,15 +15,8 @@ NotUnit a hint of this line names a clause that leaves more than one literal ope
 NoConflict the hints don't lead to a contradiction: one is missing at the end, or one is wrong
 NoEmpty no line is the empty clause, so nothing is refuted: a last line without literals, NUMBER : HINTS, is missing";
 
-/// A source: its name, and its tokens.
-#[derive(Clone, Copy)]
-pub(crate) struct Source<'a> {
-    pub(crate) name: &'a [u8],
-    pub(crate) tokens: &'a [&'a [u8]],
-}
-
 /// Appends a note on a refused certificate or proof.
-pub(crate) fn push_refusal(note: &mut Text, file: File, source: Source, refused: Refused) {
+pub(crate) fn push_refusal(note: &mut Text, file: File, source: &Reading, refused: Refused) {
     let first = section_spot(file.text, refused.section.unwrap_or(0) as u64);
     let section = line_at(file.text, first.from);
     let spot = refused_spot(file.text, first, refused);
@@ -46,37 +40,41 @@ pub(crate) fn push_refusal(note: &mut Text, file: File, source: Source, refused:
     if refused.section.is_none() {
         return;
     }
-    if may_be_too_low(refused.rule) && !has_word(b"strong rr", word_of(section, 2)) {
+    if matches!(
+        refused.rule,
+        Rule::NotUnit | Rule::NoConflict | Rule::NoEmpty
+    ) && !has_word(b"strong rr", word_of(section, 2))
+    {
         note.push_filled(
             b"  the level may be too low: `./quelea classify %` prints the least levels that are enough\n",
-            &[source.name],
+            &[source.file.name],
         );
     }
     push_remedy(note, source);
 }
 
 /// Appends a note on a section that isn't where the order of the source has it.
-pub(crate) fn push_order(note: &mut Text, file: File, source: Source, number: u32) {
+pub(crate) fn push_order(note: &mut Text, file: File, source: &Reading, number: u32) {
     let spot = section_spot(file.text, number as u64);
     let index = number.saturating_sub(1) as u64;
     let ops = source
-        .tokens
+        .pieces
         .iter()
         .filter(|token| **token == b"op".as_slice())
         .count() as u64;
     let (sort, found): (&[u8], Option<usize>) = if index < ops {
-        (b"op", nth_of(source.tokens, b"op", index))
+        (b"op", nth_of(source.pieces, b"op", index))
     } else {
         (
             b"txn",
-            nth_of(source.tokens, b"transaction", index.saturating_sub(ops)),
+            nth_of(source.pieces, b"transaction", index.saturating_sub(ops)),
         )
     };
     note.begin_fault(file, spot, "order");
     match found {
         Some(k) => note.push_counted(
             b"sections follow the order of the source, so section # must be that of `% %`",
-            &[sort, piece_after(source.tokens, k)],
+            &[sort, piece_after(source.pieces, k)],
             &[number as u64],
         ),
         None => note.push_counted(
@@ -89,16 +87,11 @@ pub(crate) fn push_order(note: &mut Text, file: File, source: Source, number: u3
     push_remedy(note, source);
 }
 
-fn push_remedy(note: &mut Text, source: Source) {
+fn push_remedy(note: &mut Text, source: &Reading) {
     note.push_filled(
         b"  the certificate or the source may have been changed: `./quelea prove %` prints a new certificate\n",
-        &[source.name],
+        &[source.file.name],
     );
-}
-
-// Whether a higher level could help: the hints lead nowhere.
-fn may_be_too_low(rule: Rule) -> bool {
-    matches!(rule, Rule::NotUnit | Rule::NoConflict | Rule::NoEmpty)
 }
 
 // The first line of the section with a number, or the line `end`; the file's first line for number 0.
