@@ -5,7 +5,7 @@ use crate::arguments::push_counts;
 use crate::kinds::{Scope, kind_named, kind_of, kind_of_init, push_kind};
 use crate::text::Text;
 use crate::words::row;
-use ql_lang::{BinOp, EmitDecl, Expr, ExprNode, Field, Kind, OpDecl, Program, TypeDecl};
+use ql_lang::{BinOp, EmitDecl, Expr, ExprNode, Field, Kind, OpDecl, Program};
 use ql_typing::{Function, find_function, is_basic, kind_of_base};
 
 /// The kinds that are allowed.
@@ -203,25 +203,17 @@ fn spelling_of(op: BinOp) -> &'static [u8] {
 /// The clash at an offset of a source.
 pub(crate) fn clash_at(program: &Program, at: usize) -> Option<Clash> {
     for declared in program.types.items() {
-        let clash = clash_in_type(declared, at);
-        if clash.is_some() {
-            return clash;
+        let fields = declared.fields.items();
+        for field in fields {
+            if field.init.at as usize == at {
+                return Some(initial_clash(field));
+            }
         }
-    }
-    None
-}
-
-fn clash_in_type(declared: &TypeDecl, at: usize) -> Option<Clash> {
-    let fields = declared.fields.items();
-    for field in fields {
-        if field.init.at as usize == at {
-            return Some(initial_clash(field));
-        }
-    }
-    for op in declared.ops.items() {
-        let clash = clash_in_operation(fields, op, at);
-        if clash.is_some() {
-            return clash;
+        for op in declared.ops.items() {
+            let clash = clash_in_operation(fields, op, at);
+            if clash.is_some() {
+                return clash;
+            }
         }
     }
     None
@@ -318,7 +310,7 @@ pub(crate) fn push_clash(note: &mut Text, clash: Clash) {
             push_kind(note, found);
             note.push(b", expected ");
             push_allowed(note, requirement);
-            note.push_filled(b": ", &[]);
+            note.push(b": ");
             note.push_filled(requirement.reason, &[requirement.owner]);
             if requirement.reason == TAKES && !row(TAKEN, requirement.owner).is_empty() {
                 note.push(row(TAKEN, requirement.owner));

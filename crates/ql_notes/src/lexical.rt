@@ -123,19 +123,16 @@ fn open_quote(text: &[u8], at: usize) -> Option<usize> {
 
 // Appends how long a name or a text is.
 fn push_long(note: &mut Text, rest: &[u8]) {
-    if rest.starts_with(b"\"") {
-        note.push_counted(
-            b"this text is # bytes long, but at most 64 are allowed",
-            &[],
-            &[text_bytes(rest) as u64],
-        );
+    let (what, bytes, most): (&[u8], usize, u64) = if rest.starts_with(b"\"") {
+        (b"text", text_bytes(rest), 64)
     } else {
-        note.push_counted(
-            b"this name is # bytes long, but at most 32 are allowed",
-            &[],
-            &[word_bytes(rest) as u64],
-        );
-    }
+        (b"name", word_bytes(rest), 32)
+    };
+    note.push_counted(
+        b"this % is # bytes long, but at most # are allowed",
+        &[what],
+        &[bytes as u64, most],
+    );
 }
 
 // How many bytes there are between the quotes of a text.

@@ -133,21 +133,18 @@ fn rule_of(terminals: &[&'static [u8]]) -> (&'static [u8], &'static [u8]) {
     let rules = RULES.as_bytes();
     for k in 0..rules.len() {
         if is_line_start(rules, k) {
-            let (first_words, name) = split_at_colon(line_of(&rules[k..]));
+            let line = line_of(&rules[k..]);
+            let colon = line.iter().rposition(|byte| *byte == b':').unwrap_or(0);
+            let first_words = line.get(..colon).unwrap_or(b"");
             if are_all(first_words, terminals) {
-                return (first_words, name);
+                return (
+                    first_words,
+                    line.get(colon.saturating_add(1)..).unwrap_or(b""),
+                );
             }
         }
     }
     (b"", b"")
-}
-
-// The bytes before the last colon of a line, and those after it.
-fn split_at_colon(line: &[u8]) -> (&[u8], &[u8]) {
-    match line.iter().rposition(|byte| *byte == b':') {
-        Some(at) if at < line.len() => (&line[..at], &line[at + 1..]),
-        _ => (line, b""),
-    }
 }
 
 // Whether each word of a text is among some words.
