@@ -28,7 +28,7 @@ pub(crate) fn push_form_fault(note: &mut Text, line: &Line) {
         );
     } else if !forms.is_empty() {
         push_found(note, line.field(misfit.field), !line.fields.is_empty());
-        if misfit.is_choice {
+        if misfit.is_choice && misfit.form.contains(&b'\n') {
             push_first_words(note, misfit.form, next_effect(line));
         } else {
             push_next_words(note, misfit.form, next_effect(line));
@@ -87,6 +87,9 @@ fn push_first_words(note: &mut Text, forms: &[u8], next: u64) {
 fn push_next_words(note: &mut Text, form: &[u8], next: u64) {
     let (first, rest) = word(form);
     let second = word(rest).0;
+    if stands_for_itself(first) && stands_for_itself(second) && !second.is_empty() {
+        return note.push_filled(b"`% %`", &[first, second]);
+    }
     push_word(note, first, next);
     if first.ends_with(b"..") && !second.is_empty() {
         note.push(b" or ");
