@@ -1,8 +1,11 @@
 // Which expression doesn't have the required kind, found by the offset of its first token: the kind that it has, the
 // required one, and what requires it.
 
-use crate::kinds::{Others, Scope, argument_kind, kind_named, kind_of, kind_of_init};
-use ql_lang::{BinOp, EmitDecl, Expr, ExprNode, Field, Kind, OpDecl, Program, TypeDecl};
+use crate::arguments::push_counts;
+use crate::kinds::{Scope, kind_named, kind_of, kind_of_init, push_kind};
+use crate::text::Text;
+use crate::words::row;
+use ql_lang::{BinOp, EmitDecl, Expr, ExprNode, Field, Kind, OpDecl, Program};
 use ql_typing::{Function, find_function, is_basic, kind_of_base};
 
 /// The kinds that are allowed.
@@ -16,25 +19,14 @@ pub(crate) enum Allowed {
     Any,
 }
 
-impl Allowed {
-    fn has(self, kind: Kind) -> bool {
-        match self {
-            Allowed::Only(wanted) => wanted == kind,
-            Allowed::Basic => is_basic(kind),
-            Allowed::First(function) => function.signature(kind).is_some(),
-            Allowed::Any => true,
-        }
-    }
-}
-
 /// Which kinds something requires of an expression.
 #[derive(Clone, Copy)]
 pub(crate) struct Requirement<'a> {
-    pub(crate) allowed: Allowed,
-    /// A sentence with `%` for the owner. After a space at its end the kind follows.
-    pub(crate) reason: &'static [u8],
-    /// The name of a declaration or a function, or an operator.
-    pub(crate) owner: &'a [u8],
+    allowed: Allowed,
+    // A sentence with `%` for the owner. After a space at its end the kind follows.
+    reason: &'static [u8],
+    // The name of a declaration or a function, or an operator.
+    owner: &'a [u8],
 }
 
 const ANY: Requirement<'static> = Requirement {
@@ -48,6 +40,14 @@ fn only<'a>(kind: Kind, reason: &'static [u8], owner: &'a [u8]) -> Requirement<'
         allowed: Allowed::Only(kind),
         reason,
         owner,
+    }
+}
+
+// The same, where the required kind may be unknown.
+fn same<'a>(kind: Option<Kind>, reason: &'static [u8], owner: &'a [u8]) -> Requirement<'a> {
+    match kind {
+        Some(kind) => only(kind, reason, owner),
+        None => ANY,
     }
 }
 
@@ -65,8 +65,8 @@ pub(crate) enum Clash<'a> {
     Count(Function, &'a [u8], usize),
 }
 
-/// What an operator or a function takes; the kinds follow.
-pub(crate) const TAKES: &[u8] = b"`%` takes ";
+// What an operator or a function takes; the kinds follow.
+const TAKES: &[u8] = b"`%` takes ";
 
 // What is searched for a clash: the names in scope, and the offset of the expression.
 #[derive(Clone, Copy)]
@@ -84,7 +84,13 @@ fn clash_of<'a>(search: Search, e: &'a Expr, requirement: Requirement<'a>) -> Op
         return inner;
     }
     let found = kind_of(search.scope, &e.node)?;
-    if requirement.allowed.has(found) {
+    let is_allowed = match requirement.allowed {
+        Allowed::Only(wanted) => wanted == found,
+        Allowed::Basic => is_basic(found),
+        Allowed::First(function) => function.signature(found).is_some(),
+        Allowed::Any => true,
+    };
+    if is_allowed {
         return None;
     }
     Some(Clash::Kind {
@@ -108,21 +114,15 @@ fn clash_inside<'a>(search: Search, at: usize, node: &'a ExprNode) -> Option<Cla
         }
         ExprNode::If(test, left, right) => {
             let branch = kind_of(search.scope, &left.node);
-            clash_of(
-                search,
-                test,
-                only(Kind::Bool, b"the condition of `if` is a bool", b""),
-            )
-            .or(clash_of(search, left, ANY))
-            .or(clash_of(search, right, branch_requirement(branch)))
+            let of_test = only(Kind::Bool, b"the condition of `if` is a bool", b"");
+            let of_right = same(branch, b"`then` and `else` must have the same kind", b"");
+            clash_of(search, test, of_test)
+                .or(clash_of(search, left, ANY))
+                .or(clash_of(search, right, of_right))
         }
         ExprNode::Binary(op, left, right) => {
-            let kind = kind_of(search.scope, &left.node);
-            clash_of(search, left, left_requirement(*op)).or(clash_of(
-                search,
-                right,
-                right_requirement(*op, kind),
-            ))
+            let of_right = right_requirement(*op, kind_of(search.scope, &left.node));
+            clash_of(search, left, left_requirement(*op)).or(clash_of(search, right, of_right))
         }
         ExprNode::Not(operand) => clash_of(search, operand, only(Kind::Bool, TAKES, b"not")),
         ExprNode::Neg(operand) => clash_of(search, operand, only(Kind::Int, TAKES, b"-")),
@@ -146,23 +146,17 @@ fn clash_in_arguments<'a>(
         owner: name,
     };
     let mut clash = clash_of(search, first, of_first);
-    let mut number = 1usize;
+    let mut is_second = true;
     for argument in others {
-        let requirement = match kind.and_then(|kind| argument_kind(function, kind, number)) {
-            Some(wanted) => only(wanted, TAKES, name),
-            None => ANY,
+        let wanted = match kind.and_then(|kind| function.signature(kind)) {
+            Some(signature) if is_second => signature.second,
+            Some(signature) => signature.third,
+            None => None,
         };
-        clash = clash.or(clash_of(search, argument, requirement));
-        number = number.saturating_add(1);
+        clash = clash.or(clash_of(search, argument, same(wanted, TAKES, name)));
+        is_second = false;
     }
     clash
-}
-
-fn branch_requirement(left: Option<Kind>) -> Requirement<'static> {
-    match left {
-        Some(kind) => only(kind, b"`then` and `else` must have the same kind", b""),
-        None => ANY,
-    }
 }
 
 // What an operator requires of its left operand.
@@ -180,13 +174,12 @@ fn left_requirement(op: BinOp) -> Requirement<'static> {
 
 // What an operator requires of its right operand, by the kind of the left one.
 fn right_requirement(op: BinOp, left: Option<Kind>) -> Requirement<'static> {
-    match (op, left) {
-        (BinOp::Eq | BinOp::Ne, Some(kind)) if is_basic(kind) => only(
-            kind,
+    match op {
+        BinOp::Eq | BinOp::Ne => same(
+            left.filter(|kind| is_basic(*kind)),
             b"both sides of `%` must have the same kind",
             spelling_of(op),
         ),
-        (BinOp::Eq | BinOp::Ne, _) => ANY,
         _ => left_requirement(op),
     }
 }
@@ -210,25 +203,17 @@ fn spelling_of(op: BinOp) -> &'static [u8] {
 /// The clash at an offset of a source.
 pub(crate) fn clash_at(program: &Program, at: usize) -> Option<Clash> {
     for declared in program.types.items() {
-        let clash = clash_in_type(declared, at);
-        if clash.is_some() {
-            return clash;
+        let fields = declared.fields.items();
+        for field in fields {
+            if field.init.at as usize == at {
+                return Some(initial_clash(field));
+            }
         }
-    }
-    None
-}
-
-fn clash_in_type(declared: &TypeDecl, at: usize) -> Option<Clash> {
-    let fields = declared.fields.items();
-    for field in fields {
-        if field.init.at as usize == at {
-            return Some(initial_clash(field));
-        }
-    }
-    for op in declared.ops.items() {
-        let clash = clash_in_operation(fields, op, at);
-        if clash.is_some() {
-            return clash;
+        for op in declared.ops.items() {
+            let clash = clash_in_operation(fields, op, at);
+            if clash.is_some() {
+                return clash;
+            }
         }
     }
     None
@@ -250,7 +235,8 @@ fn initial_clash(field: &Field) -> Clash {
 fn clash_in_operation<'a>(fields: &'a [Field], op: &'a OpDecl, at: usize) -> Option<Clash<'a>> {
     let scope = Scope {
         fields,
-        others: Others::Parameters(op.params.items()),
+        params: op.params.items(),
+        emitted: &[],
     };
     let search = Search { scope: &scope, at };
     let answer = only(op.kind, b"the answer of `%` is ", op.name.word.bytes());
@@ -270,29 +256,80 @@ fn clash_in_effect<'a>(search: Search, effect: &'a EmitDecl) -> Option<Clash<'a>
             return clash;
         }
     }
+    let when = only(Kind::Bool, b"`when` takes a bool", b"");
+    clash_of(search, &effect.test, when).or(clash_in_statements(search, effect))
+}
+
+fn clash_in_statements<'a>(search: Search, effect: &'a EmitDecl) -> Option<Clash<'a>> {
     let scope = Scope {
         fields: search.scope.fields,
-        others: Others::Emitted(effect.binds.items()),
+        params: &[],
+        emitted: effect.binds.items(),
     };
     let applied = Search {
         scope: &scope,
         at: search.at,
     };
-    let when = only(Kind::Bool, b"`when` takes a bool", b"");
-    clash_of(search, &effect.test, when).or(clash_in_statements(applied, effect))
-}
-
-fn clash_in_statements<'a>(search: Search, effect: &'a EmitDecl) -> Option<Clash<'a>> {
     for statement in effect.stmts.items() {
         let target = &statement.target.word;
-        let requirement = match kind_named(search.scope, target) {
-            Some(kind) => only(kind, b"the field `%` is ", target.bytes()),
-            None => ANY,
-        };
-        let clash = clash_of(search, &statement.value, requirement);
+        let kind = kind_named(&scope, target);
+        let requirement = same(kind, b"the field `%` is ", target.bytes());
+        let clash = clash_of(applied, &statement.value, requirement);
         if clash.is_some() {
             return clash;
         }
     }
     None
+}
+
+// What each function takes.
+const TAKEN: &str = "has a set or a map, then an element or a key
+size a set or a map
+add a set, then an element
+remove a set, then an element
+union a set, then another one of the same kind
+put a map, then a key, then its value
+drop a map, then a key
+get a map, then a key, then the value to use if the key is missing
+sum a map with int values";
+
+/// Appends the found and the expected kind, and what requires the expected one.
+pub(crate) fn push_clash(note: &mut Text, clash: Clash) {
+    match clash {
+        Clash::Count(function, name, given) => {
+            push_counts(note, name, function.arity(), given);
+            note.push(b": it takes ");
+            note.push(row(TAKEN, name));
+        }
+        Clash::Kind {
+            found,
+            requirement,
+            ..
+        } => {
+            note.push(b"found ");
+            push_kind(note, found);
+            note.push(b", expected ");
+            push_allowed(note, requirement);
+            note.push(b": ");
+            note.push_filled(requirement.reason, &[requirement.owner]);
+            if requirement.reason == TAKES && !row(TAKEN, requirement.owner).is_empty() {
+                note.push(row(TAKEN, requirement.owner));
+            } else if requirement.reason.ends_with(b" ") {
+                push_allowed(note, requirement);
+            }
+        }
+    }
+}
+
+fn push_allowed(note: &mut Text, requirement: Requirement) {
+    let taken = row(TAKEN, requirement.owner);
+    match requirement.allowed {
+        Allowed::Only(kind) => push_kind(note, Some(kind)),
+        Allowed::Basic => note.push(b"an int, a bool or a text"),
+        Allowed::First(_) => {
+            let first = taken.iter().take_while(|byte| **byte != b',').count();
+            note.push(taken.get(..first).unwrap_or(taken));
+        }
+        Allowed::Any => {}
+    }
 }

@@ -3,80 +3,71 @@
 // A form is a row of words, as in docs/FILES.md: capitals stand for what is to be filled in, and two dots after them
 // for any number of it.
 
-use crate::fields::{Above, FaultyLine};
-use crate::rules::sentence;
+use crate::kinds_of_files::push_kind_of_file;
+use crate::lexical::BYTE_ORDER_MARK;
+use crate::lines::{Above, Line};
+use crate::syntax::push_found;
 use crate::text::Text;
-use crate::words::{has_word, is, is_line_start, sentence_of, word};
+use crate::words::{has_word, is, is_line_start, line_with, row, word, word_of};
 use ql_base::{digit_bytes, is_name, number_of};
-use ql_excerpt::{File, line_of};
+use ql_excerpt::line_of;
+use ql_reply::Part;
 
 /// Appends a note on a line that doesn't have its form: what it has there, and what was expected.
-pub(crate) fn push_form_fault(note: &mut Text, file: File, line: &FaultyLine) {
-    let forms = forms(line.part, line.counts).as_bytes();
+pub(crate) fn push_form_fault(note: &mut Text, line: &Line) {
+    let forms = forms_at(line);
     let misfit = find_misfit(forms, line);
     let spot = line.spot(misfit.field);
-    note.begin_fault(file, spot, line.rule);
-    note.push(if line.start == file.text.len() {
-        end_sentence(forms)
-    } else {
-        sentence(line.part, line.rule)
-    });
-    note.end_fault(file, spot);
-    if line.field(misfit.field).is_empty() && word(misfit.form).0.ends_with(b"..") {
-        push_descent(note, line);
-    } else {
+    note.begin_fault(line.file, spot, line.rule.name());
+    note.push(sentence(line, forms, misfit));
+    note.end_fault(line.file, spot);
+    if is_descent(line, misfit) {
+        note.push_filled(
+            b"  the effects that it sees must be in ascending order: `%` comes too late\n",
+            &[line.field(misfit.field)],
+        );
+    } else if !forms.is_empty() {
         push_found(note, line.field(misfit.field), !line.fields.is_empty());
-        push_alternatives(note, misfit, next_effect(line));
+        if misfit.is_choice && misfit.form.contains(&b'\n') {
+            push_first_words(note, misfit.form, next_effect(line));
+        } else {
+            push_next_words(note, misfit.form, next_effect(line));
+        }
         note.push(b"\n");
     }
+    if line.counts.lines == 0 {
+        push_kind_of_file(note, line.file.text, line.part);
+    }
 }
 
-// That a file ends where a line should have one of some forms.
-fn end_sentence(forms: &[u8]) -> &'static [u8] {
-    if forms.ends_with(b"end") {
-        b"the file ends here, but the line `end` is missing"
+// What is wrong with a line that deviates from some forms.
+fn sentence(line: &Line, forms: &[u8], misfit: Misfit) -> &'static [u8] {
+    if line.counts.lines == 0 && line.file.text.starts_with(BYTE_ORDER_MARK) {
+        b"a byte order mark isn't allowed: save the file as UTF-8 without one"
+    } else if forms.is_empty() && matches!(line.part, Part::Execution) {
+        b"the line `end` above ends the execution, and one is read: copy the lines from another `execution` to its `end` into a file of their own"
+    } else if forms.is_empty() {
+        b"the line `end` above ends the file: only comments may follow it"
     } else if is(forms, b"execution") {
         b"the file ends here, but the line `execution` is missing before the first effect"
-    } else {
+    } else if line.start == line.file.text.len() && forms.ends_with(b"end") {
+        b"the file ends here, but the line `end` is missing"
+    } else if line.start == line.file.text.len() {
         b"the file ends here"
-    }
-}
-
-// Appends which of the effects that an effect sees isn't in ascending order.
-fn push_descent(note: &mut Text, line: &FaultyLine) {
-    let mut last = 0;
-    let mut is_seen = false;
-    for k in 0..line.fields.len() {
-        if is_seen && line.number(k) <= last {
-            return note.push_filled(
-                b"  the effects that it sees must be in ascending order: `%` comes too late\n",
-                &[line.field(k)],
-            );
-        }
-        last = line.number(k);
-        is_seen = is_seen || is(line.field(k), b"vis");
-    }
-}
-
-/// Appends a word in quotes, or where it is empty that the line or the file ends.
-pub(crate) fn push_found(note: &mut Text, word: &[u8], is_line: bool) {
-    let sentence: &[u8] = if !word.is_empty() {
-        b"  found `%`, expected "
-    } else if is_line {
-        b"  found the end of the line, expected "
+    } else if line.begins(b"join") && misfit.is_choice {
+        b"replicas join only in a schedule of version 2, whose first line is `quelea schedule 2`"
+    } else if line.field(misfit.field).contains(&b'\t') {
+        b"a tab doesn't separate fields: use spaces"
     } else {
-        b"  found the end of the file, expected "
-    };
-    note.push_filled(sentence, &[word]);
+        b"this line doesn't have the right form, or isn't allowed here"
+    }
 }
 
-// Appends what may come where a line deviates from its form.
-fn push_alternatives(note: &mut Text, misfit: Misfit, next: u64) {
-    if misfit.is_choice {
-        push_first_words(note, misfit.form, next);
-    } else {
-        push_next_words(note, misfit.form, next);
-    }
+// Whether a line deviates from its form by an effect that it sees and that isn't in ascending order.
+fn is_descent(line: &Line, misfit: Misfit) -> bool {
+    is(word(misfit.form).0, b"SEEN..")
+        && !line.field(misfit.field).is_empty()
+        && line.number(misfit.field) > 0
 }
 
 // Appends the first words of the forms that a line may have.
@@ -85,29 +76,20 @@ fn push_first_words(note: &mut Text, forms: &[u8], next: u64) {
     let mut number = 0usize;
     for k in 0..forms.len() {
         if is_line_start(forms, k) {
-            push_separator(note, number, count.saturating_add(1));
+            note.push_separator(number, count.saturating_add(1));
             push_word(note, word(&forms[k..]).0, next);
             number = number.saturating_add(1);
         }
     }
 }
 
-/// Appends what comes before the item at an index of a list of alternatives.
-pub(crate) fn push_separator(note: &mut Text, k: usize, count: usize) {
-    if k == 0 {
-        return;
-    }
-    note.push(if k.saturating_add(1) == count {
-        b" or "
-    } else {
-        b", "
-    });
-}
-
 // Appends what comes next in a form: its next word, and the one after it if the first stands for itself.
 fn push_next_words(note: &mut Text, form: &[u8], next: u64) {
     let (first, rest) = word(form);
     let second = word(rest).0;
+    if stands_for_itself(first) && stands_for_itself(second) && !second.is_empty() {
+        return note.push_filled(b"`% %`", &[first, second]);
+    }
     push_word(note, first, next);
     if first.ends_with(b"..") && !second.is_empty() {
         note.push(b" or ");
@@ -126,16 +108,9 @@ fn push_word(note: &mut Text, wanted: &[u8], next: u64) {
     } else if stands_for_itself(wanted) {
         note.push_filled(b"`%`", &[wanted])
     } else {
-        note.push(sentence_of(MEANINGS, wanted))
+        note.push(row(MEANINGS, wanted))
     }
 }
-
-const OF_EXECUTION: &str =
-    "effect NEXT NAME NAME VALUES = VALUE emit PAYLOAD session SESSION txn TXN stamp NUMBER vis SEEN..
-end";
-
-const OF_HOLDS: &str = "effect NEXT NAME NAME session SESSION vis SEEN..
-end";
 
 const OF_EVENTS: &str = "call DIGITS at DIGITS NAME NAME ARGUMENT..
 begin DIGITS at DIGITS NAME NAME NAME..
@@ -148,68 +123,48 @@ partition DIGITS..
 heal
 join JOIN DIGITS";
 
+const OF_EFFECTS: &str =
+    "effect NEXT NAME NAME VALUES = VALUE emit PAYLOAD session SESSION txn TXN stamp NUMBER vis SEEN..
+end";
+
 const OF_SECTIONS: &str = "op NAME OP_LEVEL
 txn NAME TXN_LEVEL
 NUMBER LITERAL.. : HINT..
 end";
 
-const OF_BASELINE: &str = "op NAME OP_LEVEL
-txn NAME TXN_LEVEL
-none TARGET NAME";
-
-// The forms that a line may have, each on a line, depending on the lines above.
-fn forms(part: &[u8], above: Above) -> &'static str {
-    if above.is_ended && !is(part, b"baseline") {
-        ""
-    } else if is(part, b"execution") {
-        if above.is_begun {
-            OF_EXECUTION
-        } else {
-            "execution"
-        }
-    } else if is(part, b"schedule") {
-        of_schedule(above)
-    } else if is(part, b"holds") {
-        of_holds(above)
-    } else if is(part, b"certificate") {
-        of_certificate(above)
-    } else if is(part, b"proof") {
-        of_proof(above)
+// The forms that a line may have, each on a line.
+fn forms_at(line: &Line) -> &'static [u8] {
+    let forms = forms(line.part, line.counts).as_bytes();
+    let first = line_with(line.above, b"quelea", 1, b"schedule");
+    if is(word_of(first, 2), b"1") {
+        forms.strip_suffix(b"\njoin JOIN DIGITS").unwrap_or(forms)
     } else {
-        OF_BASELINE
+        forms
     }
 }
 
-fn of_schedule(above: Above) -> &'static str {
-    match above.lines {
-        0 => "quelea schedule VERSION",
-        1 => "replicas DIGITS",
-        _ if above.has_events => OF_EVENTS,
-        _ => "object NAME NAME\nevents",
+// The same, depending on the lines above.
+fn forms(part: Part, above: Above) -> &'static str {
+    if above.is_ended {
+        return "";
     }
-}
-
-fn of_holds(above: Above) -> &'static str {
-    match above.lines {
-        0 => "contract CONTRACT..",
-        1 => "at NUMBER",
-        _ => OF_HOLDS,
-    }
-}
-
-fn of_certificate(above: Above) -> &'static str {
-    match above.lines {
-        0 => "quelea certificate 1",
-        1 => "op NAME OP_LEVEL\ntxn NAME TXN_LEVEL\nend",
-        _ => OF_SECTIONS,
-    }
-}
-
-fn of_proof(above: Above) -> &'static str {
-    match above.lines {
-        0 => "variables NUMBER",
-        _ if above.numbered > 0 => "NUMBER LITERAL.. : HINT..\nend",
-        _ => "c LITERAL..\nNUMBER LITERAL.. : HINT..\nend",
+    match (part, above.lines) {
+        (Part::Schedule, 0) => "quelea schedule VERSION",
+        (Part::Schedule, 1) => "replicas DIGITS",
+        (Part::Schedule, _) if above.has_events => OF_EVENTS,
+        (Part::Schedule, _) => "object NAME NAME\nevents",
+        (Part::Execution, 0) => "execution",
+        (Part::Execution, _) => OF_EFFECTS,
+        (Part::Holds, 0) => "contract CONTRACT..",
+        (Part::Holds, 1) => "at NUMBER",
+        (Part::Holds, _) => "effect NEXT NAME NAME session SESSION vis SEEN..\nend",
+        (Part::Certificate, 0) => "quelea certificate 1",
+        (Part::Certificate, 1) => "op NAME OP_LEVEL\ntxn NAME TXN_LEVEL\nend",
+        (Part::Certificate, _) => OF_SECTIONS,
+        (Part::Proof, 0) => "variables NUMBER",
+        (Part::Proof, _) if above.numbered > 0 => "NUMBER LITERAL.. : HINT..\nend",
+        (Part::Proof, _) => "c LITERAL..\nNUMBER LITERAL.. : HINT..\nend",
+        _ => "op NAME OP_LEVEL\ntxn NAME TXN_LEVEL\nnone TARGET NAME",
     }
 }
 
@@ -223,7 +178,7 @@ struct Misfit {
 }
 
 // Where a line deviates from the forms that it may have.
-fn find_misfit(forms: &'static [u8], line: &FaultyLine) -> Misfit {
+fn find_misfit(forms: &'static [u8], line: &Line) -> Misfit {
     for k in 0..forms.len() {
         if is_line_start(forms, k) {
             let form = line_of(&forms[k..]);
@@ -239,15 +194,18 @@ fn find_misfit(forms: &'static [u8], line: &FaultyLine) -> Misfit {
     }
 }
 
-fn misfit_of(form: &'static [u8], line: &FaultyLine) -> Misfit {
+fn misfit_of(form: &'static [u8], line: &Line) -> Misfit {
     let mut form = form;
+    let mut last = 0;
     for (k, field) in line.fields.iter().enumerate() {
         let (first, after) = word(form);
         let is_list = first.ends_with(b"..");
+        let is_ascending = !is(first, b"SEEN..") || line.number(k) > last;
+        last = line.number(k);
         // A list ends where the word after it fits.
         if is_list && word(after).0 == field.text {
             form = word(after).1;
-        } else if !fits(first, field.text, line) {
+        } else if !fits(first, field.text, line) || !is_ascending {
             return Misfit {
                 field: k,
                 form,
@@ -255,6 +213,7 @@ fn misfit_of(form: &'static [u8], line: &FaultyLine) -> Misfit {
             };
         } else if !is_list {
             form = after;
+            last = 0;
         }
     }
     Misfit {
@@ -264,8 +223,9 @@ fn misfit_of(form: &'static [u8], line: &FaultyLine) -> Misfit {
     }
 }
 
-// What the words of forms stand for, one word on each line.
-const MEANINGS: &str = "NAME a name
+// What the words of forms stand for.
+const MEANINGS: &str =
+    "NAME a name: a lower-case letter, then lower-case letters, digits or `_`, and no keyword
 NUMBER a number
 DIGITS a number
 SESSION a session from 0 to 255
@@ -286,6 +246,13 @@ TARGET `op` or `txn`
 VERSION `1` or `2`
 CONTRACT.. a contract";
 
+// The words that a word of a form allows.
+const LISTED: &str = "OP_LEVEL eventual causal wide strong
+TXN_LEVEL rc mav rr
+JOIN copy bare
+TARGET op txn
+VERSION 1 2";
+
 // Whether a word of a form stands for itself: it doesn't begin with a capital.
 fn stands_for_itself(wanted: &[u8]) -> bool {
     match wanted.first() {
@@ -294,8 +261,12 @@ fn stands_for_itself(wanted: &[u8]) -> bool {
     }
 }
 
+fn next_effect(line: &Line) -> u64 {
+    line.counts.effects.saturating_add(1)
+}
+
 // Whether a field of a line fits a word of a form.
-fn fits(wanted: &[u8], field: &[u8], line: &FaultyLine) -> bool {
+fn fits(wanted: &[u8], field: &[u8], line: &Line) -> bool {
     if field.is_empty() || wanted.is_empty() {
         false
     } else if stands_for_itself(wanted) {
@@ -325,25 +296,17 @@ fn fits_text(wanted: &[u8], field: &[u8]) -> bool {
     } else if is(wanted, b"VALUE") || is(wanted, b"ARGUMENT..") {
         is_value(field)
     } else if is(wanted, b"LITERAL..") {
-        is_literal(field)
+        number_of(field.strip_prefix(b"-").unwrap_or(field), u32::MAX as u64).is_some()
     } else if is(wanted, b"HINT..") {
-        is_hint(field)
+        match field.strip_prefix(b"c").or(field.strip_prefix(b"l")) {
+            Some(number) => digit_bytes(number) == number.len(),
+            None => false,
+        }
     } else {
-        let words = sentence_of(LISTED, wanted);
+        let words = row(LISTED, wanted);
         words.is_empty() || has_word(words, field)
     }
 }
-
-fn next_effect(line: &FaultyLine) -> u64 {
-    line.counts.effects.saturating_add(1)
-}
-
-// The words that a word of a form allows.
-const LISTED: &str = "OP_LEVEL eventual causal wide strong
-TXN_LEVEL rc mav rr
-JOIN copy bare
-TARGET op txn
-VERSION 1 2";
 
 // Whether a field is in parentheses, with spaces only after commas and colons.
 fn is_bracketed(field: &[u8]) -> bool {
@@ -353,13 +316,13 @@ fn is_bracketed(field: &[u8]) -> bool {
 // Whether there is a space outside quotes that follows neither a comma nor a colon.
 fn has_stray_space(field: &[u8]) -> bool {
     let mut is_quoted = false;
-    for k in 1..field.len() {
-        if field[k] == b'"' {
-            is_quoted = !is_quoted;
-        }
-        if field[k] == b' ' && !is_quoted && !matches!(field[k - 1], b',' | b':') {
+    let mut last = b',';
+    for byte in field {
+        if *byte == b' ' && !is_quoted && !matches!(last, b',' | b':') {
             return true;
         }
+        is_quoted ^= *byte == b'"';
+        last = *byte;
     }
     false
 }
@@ -376,22 +339,9 @@ fn is_value(field: &[u8]) -> bool {
 
 // NUMBER:NAME
 fn is_transaction(field: &[u8]) -> bool {
-    for k in 0..field.len() {
-        if field[k] == b':' {
-            return number_of(&field[..k], u32::MAX as u64).is_some() && is_name(&field[k + 1..]);
-        }
-    }
-    false
-}
-
-fn is_literal(field: &[u8]) -> bool {
-    let number = field.strip_prefix(b"-").unwrap_or(field);
-    number_of(number, u32::MAX as u64).is_some()
-}
-
-fn is_hint(field: &[u8]) -> bool {
-    match field.strip_prefix(b"c").or(field.strip_prefix(b"l")) {
-        Some(number) => digit_bytes(number) == number.len(),
-        None => false,
+    match field.iter().position(|byte| *byte == b':') {
+        Some(at) if at < field.len() => number_of(&field[..at], u32::MAX as u64).is_some()
+            && is_name(&field[at + 1..]),
+        _ => false,
     }
 }

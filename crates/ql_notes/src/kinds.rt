@@ -1,21 +1,16 @@
-// The kinds of expressions, as far as they can be determined.
+// The kinds of expressions, as far as they can be determined, and how a kind is written.
 
+use crate::text::Text;
 use ql_base::Word;
-use ql_lang::{Bind, Expr, ExprNode, Field, Init, InitNode, Kind, Param};
+use ql_lang::{Base, Bind, ExprNode, Field, Init, InitNode, Kind, Param};
 use ql_typing::{Function, find_function, kind_of_base, operator_gives};
 
-/// The names that an expression may use.
+/// The names that an expression may use: fields, and parameters or in a statement emitted values.
 #[derive(Clone, Copy)]
 pub(crate) struct Scope<'a> {
     pub(crate) fields: &'a [Field],
-    pub(crate) others: Others<'a>,
-}
-
-/// The names other than fields: parameters, or in a statement emitted values.
-#[derive(Clone, Copy)]
-pub(crate) enum Others<'a> {
-    Parameters(&'a [Param]),
-    Emitted(&'a [Bind]),
+    pub(crate) params: &'a [Param],
+    pub(crate) emitted: &'a [Bind],
 }
 
 /// The kind of a name in scope. If a name occurs twice, the first kind counts.
@@ -25,23 +20,12 @@ pub(crate) fn kind_named(scope: &Scope, word: &Word) -> Option<Kind> {
             return Some(field.kind);
         }
     }
-    match scope.others {
-        Others::Parameters(params) => kind_of_parameter(params, word),
-        Others::Emitted(binds) => kind_of_emitted(binds, word),
-    }
-}
-
-fn kind_of_parameter(params: &[Param], word: &Word) -> Option<Kind> {
-    for param in params {
+    for param in scope.params {
         if param.name.word.bytes() == word.bytes() {
             return Some(kind_of_base(param.base));
         }
     }
-    None
-}
-
-fn kind_of_emitted(binds: &[Bind], word: &Word) -> Option<Kind> {
-    for bind in binds {
+    for bind in scope.emitted {
         if bind.name.word.bytes() == word.bytes() {
             return Some(kind_of_base(bind.base));
         }
@@ -60,34 +44,14 @@ pub(crate) fn kind_of(scope: &Scope, node: &ExprNode) -> Option<Kind> {
         ExprNode::Var(name) => kind_named(scope, &name.word),
         ExprNode::If(_, left, _) => kind_of(scope, &left.node),
         ExprNode::Binary(op, _, _) => Some(operator_gives(*op)),
-        ExprNode::Call(name, arguments) => {
-            let function = find_function(name.word.bytes())?;
-            result_of_call(scope, function, arguments.items())
-        }
-    }
-}
-
-#[cycle(kind)]
-fn result_of_call(scope: &Scope, function: Function, arguments: &[Expr]) -> Option<Kind> {
-    match function {
-        Function::Has => Some(Kind::Bool),
-        Function::Size | Function::Sum => Some(Kind::Int),
-        Function::Get => {
-            let map = kind_of(scope, &arguments.first()?.node)?;
-            Some(function.signature(map)?.gives)
-        }
-        Function::Add | Function::Remove | Function::Union | Function::Put | Function::Drop =>
-            kind_of(scope, &arguments.first()?.node),
-    }
-}
-
-/// The kind that a function expects of its argument at an index after the first, by the kind of that one.
-pub(crate) fn argument_kind(function: Function, first: Kind, index: usize) -> Option<Kind> {
-    let signature = function.signature(first)?;
-    if index == 1 {
-        signature.second
-    } else {
-        signature.third
+        ExprNode::Call(name, arguments) => match find_function(name.word.bytes())? {
+            Function::Has => Some(Kind::Bool),
+            Function::Size | Function::Sum => Some(Kind::Int),
+            function => {
+                let first = kind_of(scope, &arguments.items().first()?.node)?;
+                Some(function.signature(first)?.gives)
+            }
+        },
     }
 }
 
@@ -99,5 +63,29 @@ pub(crate) fn kind_of_init(init: &Init) -> Option<Kind> {
         InitNode::Bool(_) => Some(Kind::Bool),
         InitNode::Unit => Some(Kind::Unit),
         InitNode::Empty => None,
+    }
+}
+
+/// Appends a kind with its article; for none, what has any.
+pub(crate) fn push_kind(note: &mut Text, kind: Option<Kind>) {
+    match kind {
+        None => note.push(b"`empty`"),
+        Some(Kind::Unit) => note.push(b"unit"),
+        Some(Kind::Int) => note.push(b"an int"),
+        Some(Kind::Bool) => note.push(b"a bool"),
+        Some(Kind::Text) => note.push(b"a text"),
+        Some(Kind::Set(base)) => note.push_filled(b"a set(%)", &[spelling_of(base)]),
+        Some(Kind::Map(key, value)) => note.push_filled(
+            b"a map(%, %)",
+            &[spelling_of(key), spelling_of(value)],
+        ),
+    }
+}
+
+fn spelling_of(base: Base) -> &'static [u8] {
+    match base {
+        Base::Int => b"int",
+        Base::Bool => b"bool",
+        Base::Text => b"text",
     }
 }

@@ -1,13 +1,16 @@
-// Why bytes aren't a token.
+// Why bytes of a source aren't a token.
 
 use crate::text::Text;
-use crate::words::{has_word, is};
 use ql_base::{digit_bytes, is_word_byte};
 use ql_excerpt::{File, Spot};
+use ql_reply::Rule;
+
+/// The bytes with which some editors begin a file.
+pub(crate) const BYTE_ORDER_MARK: &[u8] = b"\xEF\xBB\xBF";
 
 /// Whether a rule is about tokens.
-pub(crate) fn is_lexical(rule: &[u8]) -> bool {
-    has_word(b"BadChar LongWord BadNumber", rule)
+pub(crate) fn is_lexical(rule: Rule) -> bool {
+    matches!(rule, Rule::BadChar | Rule::LongWord | Rule::BadNumber)
 }
 
 /// Appends a note on the bytes at an offset of a file, which aren't a token by a rule. The answer may report
@@ -16,91 +19,73 @@ pub(crate) fn push_lexical_fault(
     note: &mut Text,
     file: File,
     at: usize,
-    rule: &[u8],
-    reported: &[u8],
+    rule: Rule,
+    reported: Rule,
 ) {
-    let spot = spot_of(file.text, at, rule);
-    note.begin_fault(file, spot, reported);
-    push_lexical(note, file.text, at, rule);
+    let rest = file.text.get(at..).unwrap_or(b"");
+    let quote = open_quote(file.text, at);
+    let spot = match rule {
+        Rule::BadChar => spot_of_byte(rest, at, quote),
+        Rule::LongWord if rest.starts_with(b"\"") => Spot {
+            from: at,
+            bytes: text_bytes(rest).saturating_add(2),
+        },
+        _ => Spot {
+            from: at,
+            bytes: word_bytes(rest),
+        },
+    };
+    note.begin_fault(file, spot, reported.name());
+    match rule {
+        Rule::BadChar => push_bad_byte(note, rest, quote.is_some()),
+        Rule::LongWord => push_long(note, rest),
+        _ => note.push(bad_number(rest)),
+    }
     note.end_fault(file, spot);
 }
 
-// The bytes from an offset on that aren't a token by a rule.
-fn spot_of(text: &[u8], at: usize, rule: &[u8]) -> Spot {
-    let rest = rest_of(text, at);
-    if is(rule, b"BadChar") {
-        spot_of_byte(text, at)
-    } else if rest.starts_with(b"\"") && is(rule, b"LongWord") {
-        Spot {
-            from: at,
-            bytes: text_bytes(rest).saturating_add(2),
-        }
-    } else {
-        Spot {
-            from: at,
-            bytes: word_bytes(rest),
-        }
-    }
-}
-
-// A wrong byte, or the text that it ends.
-fn spot_of_byte(text: &[u8], at: usize) -> Spot {
-    match open_quote(text, at) {
-        Some(quote) if is_line_end(byte_at(text, at)) => Spot {
-            from: quote,
-            bytes: at.saturating_sub(quote),
+// A wrong byte at an offset, or the text that it ends.
+fn spot_of_byte(rest: &[u8], at: usize, quote: Option<usize>) -> Spot {
+    match quote {
+        Some(from) if is_line_end(rest) => Spot {
+            from,
+            bytes: at.saturating_sub(from),
         },
+        _ if rest.starts_with(BYTE_ORDER_MARK) => Spot { from: at, bytes: 3 },
         _ => Spot { from: at, bytes: 1 },
     }
 }
 
-fn is_line_end(byte: u8) -> bool {
-    byte == b'\n' || byte == b'\r'
+// Whether a line ends before some bytes.
+fn is_line_end(rest: &[u8]) -> bool {
+    matches!(rest.first(), None | Some(b'\n' | b'\r'))
 }
 
-// Appends why the bytes at an offset aren't a token.
-fn push_lexical(note: &mut Text, text: &[u8], at: usize, rule: &[u8]) {
-    let rest = rest_of(text, at);
-    if is(rule, b"BadChar") {
-        push_bad_byte(note, byte_at(text, at), open_quote(text, at).is_some());
-    } else if is(rule, b"LongWord") {
-        push_long(note, rest);
-    } else {
-        note.push(bad_number(rest));
-    }
-}
-
-fn rest_of(text: &[u8], at: usize) -> &[u8] {
-    if at < text.len() { &text[at..] } else { b"" }
-}
-
-// The byte at an offset; a line feed after the last one.
-fn byte_at(text: &[u8], at: usize) -> u8 {
-    rest_of(text, at).first().copied().unwrap_or(b'\n')
-}
-
-// Appends why a byte is wrong.
-fn push_bad_byte(note: &mut Text, byte: u8, is_text: bool) {
-    if !is_text {
-        push_byte(note, b"no token begins with ", byte, advice(byte));
-    } else if is_line_end(byte) {
+// Appends why the first of some bytes is wrong.
+fn push_bad_byte(note: &mut Text, rest: &[u8], is_text: bool) {
+    let byte = rest.first().copied().unwrap_or(b'\n');
+    if is_text && is_line_end(rest) {
         note.push(b"this text has no closing `\"` on the same line");
-    } else {
-        push_byte(
-            note,
-            b"",
-            byte,
+    } else if rest.starts_with(BYTE_ORDER_MARK) {
+        note.push(b"a byte order mark isn't allowed: save the file as UTF-8 without one");
+    } else if is_text {
+        push_byte(note, b"", byte);
+        note.push(
             b" isn't allowed in a text, which may have bytes from space to `~` except `\"` and `\\`",
         );
+    } else {
+        push_byte(note, b"no token begins with ", byte);
+        note.push(advice(byte));
     }
 }
 
-// Appends a printable byte in quotes, or any other byte as a number, between some words.
-fn push_byte(said: &mut Text, before: &[u8], byte: u8, after: &[u8]) {
+// Appends some words, and a printable byte in quotes, or any other byte as a number.
+fn push_byte(said: &mut Text, before: &[u8], byte: u8) {
+    said.push(before);
     if 33 <= byte && byte <= 126 {
-        said.push_filled(b"%`%`%", &[before, &[byte], after])
+        said.push_filled(b"`%`", &[&[byte]])
     } else {
-        said.push_counted(b"%the byte #%", &[before, after], &[byte as u64])
+        said.push_counted(b"the byte #", &[], &[byte as u64])
     }
 }
 
@@ -112,8 +97,9 @@ fn advice(byte: u8) -> &'static [u8] {
         b'/' => b": a comment begins with `#`, `/\\` joins contracts, and there is no division",
         b'\\' => b": `\\/` joins contracts, and `or` joins expressions",
         b'\'' | b'`' => b": a text is written in double quotes",
-        b'!' => b": `!=` means not equal, and `not` negates",
+        b'!' => b": `!=` means not equal, and `not` negates, both only in expressions",
         b'%' => b": there is no division, only `+`, `-` and `*`",
+        b'-' | b'>' => b": `=>` means implies",
         128..=255 => b": only comments may contain characters other than ASCII",
         _ => b"",
     }
@@ -123,10 +109,7 @@ fn advice(byte: u8) -> &'static [u8] {
 fn open_quote(text: &[u8], at: usize) -> Option<usize> {
     let mut quote = None;
     let mut is_comment = false;
-    for (k, byte) in text.iter().enumerate() {
-        if k >= at {
-            return quote;
-        }
+    for (k, byte) in text.iter().take(at).enumerate() {
         if is_comment {
             is_comment = *byte != b'\n';
         } else if *byte == b'"' {
@@ -140,43 +123,29 @@ fn open_quote(text: &[u8], at: usize) -> Option<usize> {
 
 // Appends how long a name or a text is.
 fn push_long(note: &mut Text, rest: &[u8]) {
-    if rest.starts_with(b"\"") {
-        note.push_counted(
-            b"this text is # bytes long, but at most 64 are allowed",
-            &[],
-            &[text_bytes(rest) as u64],
-        );
+    let (what, bytes, most): (&[u8], usize, u64) = if rest.starts_with(b"\"") {
+        (b"text", text_bytes(rest), 64)
     } else {
-        note.push_counted(
-            b"this name is # bytes long, but at most 32 are allowed",
-            &[],
-            &[word_bytes(rest) as u64],
-        );
-    }
+        (b"name", word_bytes(rest), 32)
+    };
+    note.push_counted(
+        b"this % is # bytes long, but at most # are allowed",
+        &[what],
+        &[bytes as u64, most],
+    );
 }
 
 // How many bytes there are between the quotes of a text.
 fn text_bytes(rest: &[u8]) -> usize {
-    let mut count = 0usize;
-    for byte in rest.iter().skip(1) {
-        if *byte == b'"' {
-            return count;
-        }
-        count = count.saturating_add(1);
-    }
-    count
+    rest.iter()
+        .skip(1)
+        .take_while(|byte| **byte != b'"')
+        .count()
 }
 
 // How many letters, digits and `_` the bytes begin with.
 fn word_bytes(rest: &[u8]) -> usize {
-    let mut count = 0usize;
-    for byte in rest {
-        if !is_word_byte(*byte) {
-            return count;
-        }
-        count = count.saturating_add(1);
-    }
-    count
+    rest.iter().take_while(|byte| is_word_byte(**byte)).count()
 }
 
 // Why bytes that begin with a digit aren't a number.

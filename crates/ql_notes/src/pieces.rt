@@ -1,18 +1,18 @@
 // The tokens of a source as words.
-ghost use Rattle.std.specs.Prelude.{◌≤◌, length};
 
 use crate::words::{has_word, is};
-use ql_base::NoMemory;
+use ql_base::{MAX_SOURCE_BYTES, NoMemory};
 use ql_lex::{LexFault, Token, tokens};
 use std::alloc::Global;
 
 // The words with which the parts of a source begin.
 const PARTS: &[u8] = b"type state op contract answer emit when apply transaction uses";
 
-/// The tokens of a text, empty where some of it isn't a token.
-pub(crate) fn tokens_of(alloc: Global, text: &[u8]) -> Result<Vec<Token>, NoMemory>
-    requires { length text.now ≤ 1048576 }
-{
+/// The tokens of a text, empty where some of it isn't a token, or where it is longer than a source.
+pub(crate) fn tokens_of(alloc: Global, text: &[u8]) -> Result<Vec<Token>, NoMemory> {
+    if text.len() > MAX_SOURCE_BYTES as usize {
+        return Ok(Vec::new(alloc));
+    }
     match tokens(alloc, text) {
         Ok(found) => Ok(found),
         Err(LexFault::NoMemory) => Err(NoMemory),
@@ -28,19 +28,10 @@ pub(crate) fn pieces<'a>(
 ) -> Result<Vec<&'a [u8]>, NoMemory> {
     let mut pieces = Vec::new(alloc);
     for token in found {
-        pieces.push(part(text, *token))?;
+        let (from, to) = (token.from as usize, token.to as usize);
+        pieces.push(text.get(from..to).unwrap_or(b""))?;
     }
     Ok(pieces)
-}
-
-/// The bytes of a token.
-pub(crate) fn part(text: &[u8], token: Token) -> &[u8] {
-    let (from, to) = (token.from as usize, token.to as usize);
-    if from <= to && to <= text.len() {
-        &text[from..to]
-    } else {
-        &text[text.len()..]
-    }
 }
 
 /// The piece at an index, empty where there is none.
@@ -82,51 +73,70 @@ pub(crate) fn next_of(pieces: &[&[u8]], k: usize, words: &[u8]) -> Option<usize>
     None
 }
 
-/// The pieces that follow some words, which are from an index on and before another one.
-pub(crate) fn pieces_after<'a>(
-    alloc: Global,
-    pieces: &[&'a [u8]],
-    from: usize,
-    to: usize,
-    words: &[u8],
-) -> Result<Vec<&'a [u8]>, NoMemory> {
-    let mut found = Vec::new(alloc);
-    for (j, piece) in pieces.iter().enumerate() {
-        if from <= j && j < to && has_word(words, piece) {
-            found.push(piece_after(pieces, j))?;
-        }
-    }
-    Ok(found)
-}
-
-/// The names after each occurrence of a keyword, among the tokens of a source.
-pub(crate) fn declared<'a>(
-    alloc: Global,
-    source: &[&'a [u8]],
-    keyword: &[u8],
-) -> Result<Vec<&'a [u8]>, NoMemory> {
-    pieces_after(alloc, source, 0, source.len(), keyword)
-}
-
-/// The first token between two others that has a name and comes right after a keyword.
-pub(crate) fn declared_between(
-    source: &[&[u8]],
-    from: usize,
-    to: usize,
-    keyword: &[u8],
-    name: &[u8],
-) -> Option<usize> {
-    for (j, token) in source.iter().enumerate() {
-        if from < j && j < to && *token == name && piece_before(source, j) == keyword {
-            return Some(j);
+/// The piece that is the occurrence of a word with a number, from 0.
+pub(crate) fn nth_of(pieces: &[&[u8]], word: &[u8], number: u64) -> Option<usize> {
+    let mut count = 0u64;
+    for (k, piece) in pieces.iter().enumerate() {
+        if *piece == word {
+            if count == number {
+                return Some(k);
+            }
+            count = count.saturating_add(1);
         }
     }
     None
 }
 
-/// The token with which a source declares a name.
-pub(crate) fn place_of_name(source: &[&[u8]], keyword: &[u8], name: &[u8]) -> Option<usize> {
-    declared_between(source, 0, source.len(), keyword, name)
+/// A part of the pieces, and the words after which a name in it is declared.
+#[derive(Clone, Copy)]
+pub(crate) struct Span<'x> {
+    pub(crate) from: usize,
+    pub(crate) to: usize,
+    pub(crate) after: &'x [u8],
+}
+
+impl Span<'_> {
+    /// Whether a piece is a name that is declared there: one of the words comes right before it, and where a comma or a
+    /// bracket may, a kind comes after it.
+    pub(crate) fn has(&self, pieces: &[&[u8]], j: usize) -> bool {
+        self.from < j
+            && j < self.to
+            && has_word(self.after, piece_before(pieces, j))
+            && (!has_word(self.after, b"(") || is(piece_after(pieces, j), b":"))
+    }
+
+    /// Appends the names that are declared there.
+    pub(crate) fn push_names<'a>(
+        &self,
+        names: &mut Vec<&'a [u8]>,
+        pieces: &[&'a [u8]],
+    ) -> Result<(), NoMemory> {
+        for (j, name) in pieces.iter().enumerate() {
+            if self.has(pieces, j) {
+                names.push(*name)?;
+            }
+        }
+        Ok(())
+    }
+
+    /// The first piece there that declares a name.
+    pub(crate) fn find(&self, pieces: &[&[u8]], name: &[u8]) -> Option<usize> {
+        for (j, other) in pieces.iter().enumerate() {
+            if *other == name && self.has(pieces, j) {
+                return Some(j);
+            }
+        }
+        None
+    }
+}
+
+/// The whole of the pieces.
+pub(crate) fn anywhere<'x>(pieces: &[&[u8]], after: &'x [u8]) -> Span<'x> {
+    Span {
+        from: 0,
+        to: pieces.len(),
+        after,
+    }
 }
 
 /// The type around a token.
@@ -146,39 +156,4 @@ pub(crate) fn part_of<'a>(pieces: &[&'a [u8]], k: usize) -> (&'a [u8], usize) {
 /// Whether a piece is one of the operations of a variable.
 pub(crate) fn is_chosen(pieces: &[&[u8]], k: usize) -> bool {
     is(part_of(pieces, k).0, b"contract") && has_word(b": |", piece_before(pieces, k))
-}
-
-/// Whether a token is a name with a kind after it.
-fn is_bound(tokens: &[&[u8]], k: usize) -> bool {
-    has_word(b"emit ( ,", piece_before(tokens, k)) && is(piece_after(tokens, k), b":")
-}
-
-/// The names with a kind after them, between two tokens.
-pub(crate) fn push_bound<'a>(
-    names: &mut Vec<&'a [u8]>,
-    tokens: &[&'a [u8]],
-    from: usize,
-    to: usize,
-) -> Result<(), NoMemory> {
-    for (j, token) in tokens.iter().enumerate() {
-        if from < j && j < to && is_bound(tokens, j) {
-            names.push(*token)?;
-        }
-    }
-    Ok(())
-}
-
-/// The first token between two others that is a word with a kind after it.
-pub(crate) fn bound_between(
-    tokens: &[&[u8]],
-    from: usize,
-    to: usize,
-    word: &[u8],
-) -> Option<usize> {
-    for (j, token) in tokens.iter().enumerate() {
-        if from < j && j < to && is_bound(tokens, j) && *token == word {
-            return Some(j);
-        }
-    }
-    None
 }

@@ -1,22 +1,19 @@
 // Notes on a source, and on the contract of a `holds` file as a part of one.
-ghost use Rattle.std.specs.Prelude.{◌≤◌, length};
 
-use crate::answers::Fault;
-use crate::clash_words::push_clash;
-use crate::clashes::{Clash, clash_at};
-use crate::first::{declaration_of, first_of};
+use crate::advice::push_advice;
+use crate::clashes::{Clash, clash_at, push_clash};
+use crate::kinds_of_files::push_kind_of_file;
 use crate::lexical::{is_lexical, push_lexical_fault};
+use crate::names::{declaration_of, first_of, push_known, push_unknown};
 use crate::pieces::{part_of, piece, pieces, tokens_of};
-use crate::rules::sentence;
 use crate::syntax::push_syntax;
 use crate::text::Text;
-use crate::unknown::{push_known, push_unknown};
-use crate::words::{is, sentence_of};
-use ql_base::NoMemory;
-use ql_excerpt::{File, Spot, place_of};
-use ql_lang::Program;
+use crate::words::row;
+use ql_base::{MAX_SOURCE_BYTES, NoMemory};
+use ql_excerpt::{File, Spot};
 use ql_lex::Token;
 use ql_parse::{ParseFault, parse_program};
+use ql_reply::{Fault, Rule};
 use std::alloc::Global;
 
 /// Appends a note on a source's fault.
@@ -25,12 +22,11 @@ pub(crate) fn push_source_fault(
     note: &mut Text,
     file: File,
     fault: Fault,
-) -> Result<(), NoMemory>
-    requires { length file.text.now ≤ 1048576 }
-{
-    let at = place_of(file.text, fault.at as usize).at;
+) -> Result<(), NoMemory> {
+    let at = fault.at as usize;
     if is_lexical(fault.rule) {
         push_lexical_fault(note, file, at, fault.rule, fault.rule);
+        push_kind_of_file(note, file.text, fault.part);
         return Ok(());
     }
     let tokens = tokens_of(alloc, file.text)?;
@@ -43,7 +39,11 @@ pub(crate) fn push_source_fault(
         before: 0,
         from: 0,
     };
-    push_fault_at(alloc, note, &source, at, fault.rule, fault.rule)
+    push_fault_at(alloc, note, &source, at, fault.rule, fault.rule)?;
+    if source.token_at(at) == 0 {
+        push_kind_of_file(note, file.text, fault.part);
+    }
+    Ok(())
 }
 
 /// The text of a source, its tokens, and their bytes. Of a contract in a file, the text is a source around it.
@@ -74,12 +74,24 @@ impl Reading<'_> {
         self.tokens.len()
     }
 
+    /// The bytes of the token at an index; one byte at the end where there is none.
+    pub(crate) fn spot(&self, k: usize) -> Spot {
+        match self.tokens.get(k) {
+            Some(token) => Spot {
+                from: self.offset_in_file(token.from as usize),
+                bytes: token.to.saturating_sub(token.from) as usize,
+            },
+            None => Spot {
+                from: self.offset_in_file(self.text.len()),
+                bytes: 1,
+            },
+        }
+    }
+
     // Appends what is at a token, if there is one.
     fn push_place(&self, note: &mut Text, what: &[u8], k: Option<usize>) {
-        if let Some(k) = k
-            && let Some(token) = self.tokens.get(k)
-        {
-            note.push_place(what, self.file, self.offset_in_file(token.from as usize));
+        if let Some(k) = k {
+            note.push_place(what, self.file, self.spot(k).from);
         }
     }
 }
@@ -90,67 +102,79 @@ pub(crate) fn push_fault_at(
     note: &mut Text,
     source: &Reading,
     at: usize,
-    rule: &[u8],
-    reported: &[u8],
-) -> Result<(), NoMemory>
-    requires { length source.now.text.now ≤ 1048576 }
-{
+    rule: Rule,
+    reported: Rule,
+) -> Result<(), NoMemory> {
     let k = source.token_at(at);
-    let word = piece(source.pieces, k);
+    let pieces = source.pieces;
     let spot = Spot {
         from: source.offset_in_file(at),
-        bytes: word.len(),
+        bytes: piece(pieces, k).len(),
     };
-    note.begin_fault(source.file, spot, reported);
-    if is(rule, b"Kind") {
+    note.begin_fault(source.file, spot, reported.name());
+    if matches!(rule, Rule::Kind) {
         return push_wrong_kind(alloc, note, source, at, spot);
     }
-    push_sentence(note, source.pieces, k, rule);
+    push_sentence(note, pieces, k, rule);
     note.end_fault(source.file, spot);
-    if is(rule, b"Unknown") {
-        push_known(alloc, note, source.pieces, k)
-    } else if is(rule, b"Unexpected") && at <= source.text.len() {
-        push_syntax(alloc, note, &source.text[..at], word, source.before > 0)
-    } else if is(rule, b"Twice") {
-        source.push_place(note, b"  first declared at ", first_of(source.pieces, k));
-        Ok(())
-    } else {
-        Ok(())
+    match rule {
+        Rule::Unknown => push_known(alloc, note, pieces, k)?,
+        Rule::Unexpected if at <= source.text.len() && at <= MAX_SOURCE_BYTES as usize => {
+            push_syntax(
+                alloc,
+                note,
+                &source.text[..at],
+                piece(pieces, k),
+                source.before > 0,
+            )?;
+            push_advice(note, pieces, k);
+        }
+        Rule::Twice => source.push_place(note, b"  first declared at ", first_of(pieces, k)),
+        _ => {}
     }
+    Ok(())
 }
+
+// What is wrong with a token, by the rule that it breaks.
+const RULES: &str = "Unexpected this isn't allowed here
+Deep at most 64 brackets may be open at once, and this is the 65th: remove those that aren't needed
+Wide an expression or a contract has at most 256 names, numbers, operators and calls, and this is the 257th: shorten it, or assign a part of it in a separate statement
+Twice `%` is already declared or listed
+Variables a contract has at most 5 variables, and this is the sixth
+TxnClosure a transaction's contract can't use `%`: it may use `vis`, `so`, `soo`, `sameobj`, `eq`, `=` and `txn`
+TxnAtom an operation's contract can't use `txn`: only a transaction's contract can";
+
+// Limits by the word that is one too many, or that begins a part of a source which is too long.
+const LIMITS: &str = "type a source has at most 16 types, and this is the 17th
+op a source has at most 32 operations in all its types, and this is the 33rd
+transaction a source has at most 16 transactions, and this is the 17th
+in.state a type has at most 16 fields, and this is the 17th
+in.op an operation has at most 8 parameters, and this is the ninth
+in.emit an operation emits at most 4 values, and this is the fifth
+in.apply an operation has at most 64 statements, and this is the 65th";
 
 // Appends what is wrong at a token.
-fn push_sentence(said: &mut Text, pieces: &[&[u8]], k: usize, rule: &[u8]) {
+fn push_sentence(said: &mut Text, pieces: &[&[u8]], k: usize, rule: Rule) {
     let word = piece(pieces, k);
-    if is(rule, b"Unknown") {
-        push_unknown(said, pieces, k)
-    } else if is(rule, b"TooMany") {
-        said.push(size_sentence(pieces, k))
-    } else if word.is_empty() {
-        said.push(b"something is missing at the end")
-    } else {
-        said.push_filled(sentence(b"source", rule), &[word])
+    match rule {
+        Rule::Unknown => push_unknown(said, pieces, k),
+        Rule::TooMany => said.push(limit_at(pieces, k)),
+        _ if word.is_empty() => said.push(b"something is missing at the end"),
+        _ => said.push_filled(row(RULES, rule.name().as_bytes()), &[word]),
     }
 }
 
-// Limits by the word that is one too many.
-const DECLARED: &str = "type a source has at most 16 types, and this is the 17th
-op a source has at most 32 operations in all its types, and this is the 33rd
-transaction a source has at most 16 transactions, and this is the 17th";
-
-// Limits by the part of a source that is too long.
-const PARTS: &str = "state a type has at most 16 fields, and this is the 17th
-op an operation has at most 8 parameters, and this is the ninth
-emit an operation emits at most 4 values, and this is the fifth
-apply an operation has at most 64 statements, and this is the 65th";
-
 // The limit of a source that is exceeded at a token.
-fn size_sentence(pieces: &[&[u8]], k: usize) -> &'static [u8] {
-    let declared = sentence_of(DECLARED, piece(pieces, k));
-    if declared.is_empty() {
-        sentence_of(PARTS, part_of(pieces, k).0)
-    } else {
-        declared
+fn limit_at(pieces: &[&[u8]], k: usize) -> &'static [u8] {
+    let declared = row(LIMITS, piece(pieces, k));
+    if !declared.is_empty() {
+        return declared;
+    }
+    match part_of(pieces, k).0.first() {
+        Some(b's') => row(LIMITS, b"in.state"),
+        Some(b'o') => row(LIMITS, b"in.op"),
+        Some(b'e') => row(LIMITS, b"in.emit"),
+        _ => row(LIMITS, b"in.apply"),
     }
 }
 
@@ -161,34 +185,25 @@ fn push_wrong_kind(
     source: &Reading,
     at: usize,
     spot: Spot,
-) -> Result<(), NoMemory>
-    requires { length source.now.text.now ≤ 1048576 }
-{
-    match parse_program(alloc, source.text) {
-        Ok(program) => push_clash_in(note, source, at, spot, &program),
-        Err(ParseFault::NoMemory) => return Err(NoMemory),
-        Err(_) => {}
+) -> Result<(), NoMemory> {
+    if source.text.len() > MAX_SOURCE_BYTES as usize {
+        return Ok(());
     }
-    Ok(())
-}
-
-fn push_clash_in(note: &mut Text, source: &Reading, at: usize, spot: Spot, program: &Program) {
-    let clash = clash_at(program, at);
+    let program = match parse_program(alloc, source.text) {
+        Ok(program) => program,
+        Err(ParseFault::NoMemory) => return Err(NoMemory),
+        Err(_) => return Ok(()),
+    };
+    let clash = clash_at(&program, at);
     match clash {
         Some(clash) => push_clash(note, clash),
         None => note.push(b"this doesn't have the kind that is expected here"),
     }
     note.end_fault(source.file, spot);
-    if let Some(
-        Clash::Kind {
-            found: _,
-            requirement: _,
-            is_name: true,
-        },
-    ) = clash
-    {
+    if let Some(Clash::Kind { is_name: true, .. }) = clash {
         push_declaration(note, source, source.token_at(at));
     }
+    Ok(())
 }
 
 // Appends where the name of the value at a token is declared.

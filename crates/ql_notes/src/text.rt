@@ -1,11 +1,13 @@
 // The text of a note.
 
 use ql_base::{NoMemory, push_number};
-use ql_excerpt::{File, Spot, place_of, push_excerpt, push_position};
+use ql_excerpt::{File, Spot, push_line, push_position, push_shown};
 use std::alloc::Global;
 
-// How many names are listed at most.
+// How many names are listed at most, and how many bytes of a word are shown.
 const MOST: usize = 12;
+
+const WORD_BYTES: usize = 100;
 
 /// A text to which bytes are appended. Out of memory, some are missing, and it isn't whole.
 #[derive(Drop)]
@@ -31,15 +33,22 @@ impl Text {
         }
     }
 
-    pub(crate) fn push(&mut self, bytes: &[u8]) {
-        if self.bytes.extend_from_slice(bytes).is_err() {
-            self.is_whole = false;
-        }
+    // Notes whether bytes were appended.
+    fn keep(&mut self, done: Result<(), NoMemory>) {
+        self.is_whole &= done.is_ok();
     }
 
-    fn push_number(&mut self, number: u64) {
-        if push_number(&mut self.bytes, number).is_err() {
-            self.is_whole = false;
+    pub(crate) fn push(&mut self, bytes: &[u8]) {
+        let is_pushed = self.bytes.extend_from_slice(bytes).is_ok();
+        self.is_whole &= is_pushed;
+    }
+
+    // Appends a word of a file as it is shown, and of a long one the first bytes.
+    fn push_word(&mut self, word: &[u8]) {
+        let shown = push_shown(&mut self.bytes, word.get(..WORD_BYTES).unwrap_or(word));
+        self.keep(shown);
+        if word.len() > WORD_BYTES {
+            self.push(b"..");
         }
     }
 
@@ -54,14 +63,24 @@ impl Text {
         let (mut word, mut number) = (0usize, 0usize);
         for byte in sentence {
             if *byte == b'%' && word < words.len() {
-                self.push(words[word]);
+                self.push_word(words[word]);
                 word += 1;
             } else if *byte == b'#' && number < numbers.len() {
-                self.push_number(numbers[number]);
+                let pushed = push_number(&mut self.bytes, numbers[number]);
+                self.keep(pushed);
                 number += 1;
             } else {
                 self.push(&[*byte]);
             }
+        }
+    }
+
+    /// Appends what comes before the item at an index of a list of alternatives.
+    pub(crate) fn push_separator(&mut self, k: usize, count: usize) {
+        if k > 0 && k.saturating_add(1) == count {
+            self.push(b" or ");
+        } else if k > 0 {
+            self.push(b", ");
         }
     }
 
@@ -84,32 +103,24 @@ impl Text {
     /// Appends what is at the position of an offset of a file.
     pub(crate) fn push_place(&mut self, what: &[u8], file: File, at: usize) {
         self.push(what);
-        self.push_position(file, at);
+        let pushed = push_position(&mut self.bytes, file, at);
+        self.keep(pushed);
         self.push(b"\n");
     }
 
-    fn push_position(&mut self, file: File, at: usize) {
-        let place = place_of(file.text, at);
-        if push_position(&mut self.bytes, file.name, place).is_err() {
-            self.is_whole = false;
-        }
-    }
-
     /// Appends the position of a fault and the rule that it breaks, before a sentence.
-    pub(crate) fn begin_fault(&mut self, file: File, spot: Spot, rule: &[u8]) {
-        self.push_position(file, spot.from);
-        self.push_filled(b": %: ", &[rule]);
+    pub(crate) fn begin_fault(&mut self, file: File, spot: Spot, rule: &str) {
+        let pushed = push_position(&mut self.bytes, file, spot.from);
+        self.keep(pushed);
+        self.push(b": ");
+        self.push(rule.as_bytes());
+        self.push(b": ");
     }
 
     /// Ends the sentence on a fault, and appends the line with a mark under it.
     pub(crate) fn end_fault(&mut self, file: File, spot: Spot) {
         self.push(b"\n");
-        let place = place_of(file.text, spot.from);
-        // The line after the last one is empty.
-        if place.start < file.text.len()
-            && push_excerpt(&mut self.bytes, file.text, place, spot.bytes).is_err()
-        {
-            self.is_whole = false;
-        }
+        let pushed = push_line(&mut self.bytes, file, spot);
+        self.keep(pushed);
     }
 }

@@ -1,8 +1,6 @@
 // Words and lines of a text.
 
-use ql_base::NoMemory;
 use ql_excerpt::line_of;
-use std::alloc::Global;
 
 /// The bytes before the first space or line feed, and those after it.
 pub(crate) fn word(text: &[u8]) -> (&[u8], &[u8]) {
@@ -34,45 +32,51 @@ pub(crate) fn has_word(text: &[u8], wanted: &[u8]) -> bool {
     false
 }
 
+/// Whether a word is one of some words.
+pub(crate) fn is_among(words: &[&[u8]], wanted: &[u8]) -> bool {
+    for word in words {
+        if *word == wanted {
+            return true;
+        }
+    }
+    false
+}
+
 /// Whether a line of a text begins at an offset.
 pub(crate) fn is_line_start(text: &[u8], k: usize) -> bool {
     k == 0 || (k <= text.len() && text[k - 1] == b'\n')
 }
 
-/// The sentence after a word, in a text that has one on each line.
-pub(crate) fn sentence_of(rules: &'static str, rule: &[u8]) -> &'static [u8] {
-    let text = rules.as_bytes();
+/// The rest of the line that begins with a word, in a table that has one on each line; empty where none does.
+pub(crate) fn row(table: &'static str, key: &[u8]) -> &'static [u8] {
+    let text = table.as_bytes();
     for k in 0..text.len() {
         if is_line_start(text, k) {
-            let (name, sentence) = word(&text[k..]);
-            if name == rule {
-                return line_of(sentence);
+            let (first, rest) = word(&text[k..]);
+            if first == key {
+                return line_of(rest);
             }
         }
     }
     &text[text.len()..]
 }
 
-/// A line or a word without the carriage return at its end.
+/// A line without the carriage return at its end.
 pub(crate) fn without_return(line: &[u8]) -> &[u8] {
     line.strip_suffix(b"\r").unwrap_or(line)
 }
 
 /// The word of a line at an index, from 0.
 pub(crate) fn word_of(line: &[u8], number: usize) -> &[u8] {
-    without_return(word(rest_from(line, number)).0)
-}
-
-/// The rest of a line from the word at an index on.
-pub(crate) fn rest_from(line: &[u8], number: usize) -> &[u8] {
     let mut rest = without_blanks(line);
     for _ in 0..number {
         rest = without_blanks(word(rest).1);
     }
-    rest
+    without_return(word(rest).0)
 }
 
-fn without_blanks(line: &[u8]) -> &[u8] {
+/// The rest of a line from the first byte on that isn't a blank.
+pub(crate) fn without_blanks(line: &[u8]) -> &[u8] {
     for k in 0..line.len() {
         if line[k] != b' ' && line[k] != b'\r' {
             return &line[k..];
@@ -100,20 +104,4 @@ pub(crate) fn line_with<'a>(text: &'a [u8], first: &[u8], number: usize, word: &
         Some(k) if k < text.len() => line_of(&text[k..]),
         _ => b"",
     }
-}
-
-/// The words at an index of the lines that begin with a word, as the names after `object`.
-pub(crate) fn named<'a>(
-    alloc: Global,
-    text: &'a [u8],
-    first: &[u8],
-    number: usize,
-) -> Result<Vec<&'a [u8]>, NoMemory> {
-    let mut names = Vec::new(alloc);
-    for k in 0..text.len() {
-        if is_line_start(text, k) && is(word_of(&text[k..], 0), first) {
-            names.push(word_of(line_of(&text[k..]), number))?;
-        }
-    }
-    Ok(names)
 }
