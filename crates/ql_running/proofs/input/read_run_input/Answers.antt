@@ -1,18 +1,10 @@
-use Rattle.std.proofs.Common.{inl, inr, subst, sym}
+use Rattle.std.proofs.Common.{inr, subst, sym}
 use Rattle.ql_running.specs.Runs.{NoRunSays}
 use Rattle.ql_running.proofs.Saying.{schedule_is_bad}
 use Rattle.ql_running.proofs.input.read_run_input.Goals as goal
 
-pub returns-in_ok-bad_source-in-Err-clause-refused : goal.returns-in_ok-bad_source-in-Err-clause-refused
-returns-in_ok-bad_source-in-Err-clause-refused c =
-    let said = c.in_ok-bad_source-in-Err.ensures in
-    let reply = c.in_ok-bad_source-in-Err.field-0 in
-    let f = c.in-Err.fault in
-    subst (λ s. NoRunSays c.args.source.now c.args.schedule.now s reply.text.items) (sym said.status)
-    (inl (c.in-Err.ensures.none reply.text.items said.text, f, c.in-Err.ensures.fault, said.text))
-
-pub returns-in_ok-bad_schedule-in-Err-parse_schedule-clause-refused : goal.returns-in_ok-bad_schedule-in-Err-parse_schedule-clause-refused
-returns-in_ok-bad_schedule-in-Err-parse_schedule-clause-refused c =
+pub returns-in-Err-parse_schedule-clause-refused : goal.returns-in-Err-parse_schedule-clause-refused
+returns-in-Err-parse_schedule-clause-refused c =
     let said = c.in_ok-bad_schedule-in-Err-parse_schedule.ensures in
     let reply = c.in_ok-bad_schedule-in-Err-parse_schedule.field-0 in
     subst (λ s. NoRunSays c.args.source.now c.args.schedule.now s reply.text.items) (sym said.status)

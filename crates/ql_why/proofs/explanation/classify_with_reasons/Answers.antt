@@ -9,7 +9,7 @@ use Rattle.ql_why.proofs.explanation.classify_with_reasons.Goals as goal
 pub returns-in-Ok-classify : goal.returns-in-Ok-classify
 returns-in-Ok-classify c =
     let levels = c.in-Ok-classify.classified.levels in
-    let text = c.in_ok-levels_with_reasons-in-Ok-classify.field-1.items in
+    let text = c.in_ok-levels_with_reasons-in-Ok-classify.field-0.items in
     let told = c.in_ok-levels_with_reasons-in-Ok-classify.ensures in (
       c.in-Ok.typed.program,
       c.in-Ok.ensures.source,
