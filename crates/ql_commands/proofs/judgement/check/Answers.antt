@@ -1,4 +1,4 @@
-use Rattle.std.proofs.Common.{◌≡◌, inl, inr, List, ℕ, Some}
+use Rattle.std.proofs.Common.{◌≡◌, inl, inr, Some}
 use Rattle.std.proofs.lemmas.Result.{IfOk-weaker}
 use Rattle.ql_reply.specs.declared.status.Status.TheVariants.{Bad}
 use Rattle.ql_reply.proofs.Replies.{replied}

@@ -1,4 +1,4 @@
-use Rattle.std.proofs.Common.{◌≡◌, suc, slice_get, Some, ap, sym, ◌∙◌, length, take, refl, arith, add-one, rules}
+use Rattle.std.proofs.Common.{◌≡◌, slice_get, Some, ap, sym, ◌∙◌, take, add-one, rules}
 use Rattle.std.specs.Prelude.{max}
 use Rattle.ql_exec.specs.Effects.{effect_at}
 use Rattle.ql_generated.specs.Summaries.{last_stamp}

@@ -1,4 +1,4 @@
-use Rattle.std.proofs.Common.{◌≡◌, ◌+◌, Some, length, slice_get, arith, ap, subst, ◌∙◌}
+use Rattle.std.proofs.Common.{◌≡◌, Some, length, slice_get, arith, ap, subst, ◌∙◌}
 use Rattle.ql_classify.specs.Targets.{goals_at}
 use Rattle.ql_commands.proofs.Headings.{length_goals}
 use Rattle.ql_ground.specs.OfPrograms.{IsGoalOf}
