@@ -14,7 +14,7 @@ ghost use Rattle.ql_reply.specs.Wrote.{Wrote};
 use crate::outcome::{Limits, outcome};
 use ql_base::{MAX_EXECUTION_BYTES, MAX_SOURCE_BYTES, NoMemory};
 use ql_ports::{Shelf, Sink};
-use ql_reply::{Answered, Ended, Status, write_reply};
+use ql_reply::{Ended, Status, write_reply};
 use std::alloc::Global;
 
 // Sources, schedules and the files of `holds` and `proof` have one limit, certificates and executions another.
@@ -100,16 +100,12 @@ pub fn carry_out<S: Shelf, K: Sink>(
         (K.written sink.old) (K.written sink.new) (K.faults sink.old) (K.faults sink.new)
         ended.status)) }
 {
-    let Answered {
-        reply,
-        first,
-        second,
-    } = outcome(alloc, words, shelf, LIMITS)?;
-    let status = write_reply(sink, reply.status, &reply.text);
+    let answered = outcome(alloc, words, shelf, LIMITS)?;
+    let status = write_reply(sink, answered.reply.status, &answered.reply.text);
     Ok(Ended {
         status,
-        cause: reply.cause,
-        first,
-        second,
+        cause: answered.reply.cause,
+        first: answered.first,
+        second: answered.second,
     })
 }

@@ -1,4 +1,4 @@
-ghost use Rattle.std.specs.Prelude.{◌≡◌, ◌<◌, ◌^◌, IfOk, length};
+ghost use Rattle.std.specs.Prelude.{◌≡◌, ◌≢◌, ◌<◌, ◌^◌, IfOk, OnOk, length};
 ghost use Rattle.std.specs.Option.{option_map};
 ghost use Rattle.ql_reply.specs.declared.status.Status.TheVariants.{Bad};
 ghost use Rattle.ql_app.specs.ProofFile.{ProofSays, ProofReports, proof_fault_text, refusal_of};
@@ -27,6 +27,7 @@ pub fn check_proof(alloc: Global, bytes: &[u8]) -> Result<Reply, NoMemory>
 fn bad_proof(alloc: Global, fault: CertFault) -> Result<Reply, NoMemory>
     ensures status { IfOk result (λ reply. reply.status ≡ Bad) }
     ensures text { IfOk result (λ reply. reply.text.items ≡ proof_fault_text fault) }
+    ensures known { OnOk result (fault ≢ CertFault.NoMemory) }
 {
     match fault {
         CertFault::Unexpected(line) => Reply::bad(alloc, Part::Proof, line, Rule::Unexpected),

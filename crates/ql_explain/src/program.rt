@@ -6,7 +6,7 @@ ghost use Rattle.ql_reply.specs.Arguments.{word_texts};
 use crate::outcome::outcome;
 use ql_base::NoMemory;
 use ql_ports::{Shelf, Sink};
-use ql_reply::{Answered, Ended, write_reply};
+use ql_reply::{Ended, write_reply};
 use std::alloc::Global;
 
 /// Carries out the arguments of the command line, without the program's own name: reads the files that they name from the
@@ -31,16 +31,12 @@ pub(crate) fn explain_words<S: Shelf, K: Sink>(
     ensures counts_stay { (other : List ℕ) → S.faults shelf.old other ≤ S.faults shelf.new other }
     ensures sink_count_stays { K.faults sink.old ≤ K.faults sink.new }
 {
-    let Answered {
-        reply,
-        first,
-        second,
-    } = outcome(alloc, words, shelf)?;
-    let status = write_reply(sink, reply.status, &reply.text);
+    let answered = outcome(alloc, words, shelf)?;
+    let status = write_reply(sink, answered.reply.status, &answered.reply.text);
     Ok(Ended {
         status,
-        cause: reply.cause,
-        first,
-        second,
+        cause: answered.reply.cause,
+        first: answered.first,
+        second: answered.second,
     })
 }

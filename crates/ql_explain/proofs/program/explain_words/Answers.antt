@@ -11,6 +11,6 @@ returns-clause-wrote g c =
     let before = g.S.Shelf.faults c.args.shelf.now in
     let after = g.S.Shelf.faults c.outcome.new.shelf in
     let words = word_texts c.args.words.now in
-    let text = c.in_ok-reply.reply.text.items in
-    wrote (Says words held before after) (g.K.Sink.written c.args.sink.now) (g.K.Sink.written c.write_reply.new.sink) (g.K.Sink.faults c.args.sink.now) (g.K.Sink.faults c.write_reply.new.sink)
-    c.in_ok-reply.reply.status c.write_reply.result text (never held before after (asked words) text) c.in_ok-reply.ensures.says (rw c.deref.ensures.value at c.write_reply.ensures.written)
+    let text = c.in_ok-answered.answered.reply.text.items in
+    wrote (Says words held before after) (g.K.Sink.written c.args.sink.now) (g.K.Sink.written c.write_reply-status.new.sink) (g.K.Sink.faults c.args.sink.now) (g.K.Sink.faults c.write_reply-status.new.sink)
+    c.in_ok-answered.answered.reply.status c.write_reply-status.result text (never held before after (asked words) text) c.in_ok-answered.ensures.says (rw c.deref.ensures.value at c.write_reply-status.ensures.written)
