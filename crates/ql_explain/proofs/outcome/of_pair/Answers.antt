@@ -1,6 +1,4 @@
-use Rattle.std.proofs.Common.{◌≡◌, ◌≤◌, ℕ, List, Err, ap, arith, inl, length, refl, subst, sym}
-use Rattle.std.specs.Prelude.{IfSome}
-use Rattle.ql_explain.specs.Outcomes.{most_bytes}
+use Rattle.std.proofs.Common.{Err, ap, arith, inl, refl}
 use Rattle.ql_explain.specs.Words.{Compared}
 use Rattle.ql_explain.proofs.Report.{one_unread, said_sooner, still_whole}
 use Rattle.ql_explain.proofs.outcome.of_pair.Goals as goal

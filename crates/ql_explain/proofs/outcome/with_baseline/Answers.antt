@@ -7,7 +7,7 @@ pub returns-in_ok-compare-in-Ok-clause-says : goal.returns-in_ok-compare-in-Ok-c
 returns-in_ok-compare-in-Ok-clause-says g c =
     let reply = c.in_ok-compare-in-Ok.field-0 in
     pair_said (g.S.Shelf.held c.args.shelf.now) (g.S.Shelf.faults c.args.shelf.now) (g.S.Shelf.faults c.read_whole.new.shelf) c.args.pair.baseline.now c.args.pair.source.now c.args.baseline.items c.in-Ok.source.items c.deref.result.now
-    c.deref.ensures.value c.requires.held c.requires.short c.in-Ok.ensures.whole (omega (arith, c.in-Ok.source.ok.0, c.in-Ok.ensures.in_limit)) reply.status reply.text.items (rw c.deref-2.ensures.value at c.in_ok-compare-in-Ok.ensures)
+    c.deref.ensures.value c.requires.held c.requires.short c.in-Ok.ensures.whole (omega (arith, c.in-Ok.source.ok.0, c.in-Ok.ensures.in_limit)) reply.status reply.text.items (rw c.deref-in-Ok.ensures.value at c.in_ok-compare-in-Ok.ensures)
 
 pub returns-in-Err-clause-says : goal.returns-in-Err-clause-says
 returns-in-Err-clause-says g c =
