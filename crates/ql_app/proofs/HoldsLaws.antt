@@ -4,7 +4,7 @@ use Rattle.std.specs.Prelude.{IfOk}
 use Rattle.ql_base.specs.declared.limits.TheConstants.{MAX_WORK}
 use Rattle.ql_base.specs.declared.no_memory.NoMemory.{NoMemory as NoMemoryLeft}
 use Rattle.ql_lines.specs.Lines.{Ahead, ahead_from, texts_of}
-use Rattle.ql_line_files.specs.declared.fault.Broken.{Broken}
+use Rattle.ql_lines.specs.declared.fault.Broken.{Broken}
 use Rattle.ql_holds_files.specs.declared.holds_fault.HoldsFault.{HoldsFault}
 use Rattle.ql_holds_files.specs.declared.holds_fault.HoldsFault.TheVariants as fault
 use Rattle.ql_holds_files.specs.declared.rules.HoldsRule.{HoldsRule}
@@ -12,10 +12,10 @@ use Rattle.ql_holds_files.specs.declared.rules.HoldsRule.TheVariants.{Unexpected
 use Rattle.ql_holds_files.specs.HoldsFile.{Asked, HoldsOutcome}
 use Rattle.ql_holds_files.specs.Holdings.{IsRefusal}
 use Rattle.ql_holds_files.specs.Rules.{rule_at}
-use Rattle.ql_holds_grammar.specs.FirstFaults.{FirstHoldsFault}
-use Rattle.ql_holds_grammar.specs.Grammar.{HoldsTree, IsHoldsFile}
-use Rattle.ql_holds_grammar.specs.Questions.{IsQuestionOf}
-use Rattle.ql_holds_grammar.specs.TreeRules.{HasCurrent, KeepsRules}
+use Rattle.ql_holds_files.specs.FirstFaults.{FirstHoldsFault}
+use Rattle.ql_holds_files.specs.Grammar.{HoldsTree, IsHoldsFile}
+use Rattle.ql_holds_files.specs.Questions.{IsQuestionOf}
+use Rattle.ql_holds_files.specs.TreeRules.{HasCurrent, KeepsRules}
 use Rattle.ql_reply.specs.Lines.{fault_line}
 use Rattle.ql_reply.specs.declared.reply.Reply.{Reply}
 use Rattle.ql_reply.specs.declared.status.Status.{Status}

@@ -13,7 +13,7 @@ use Rattle.ql_reply.specs.Read.{IsRead}
 use Rattle.ql_reply.specs.Wrote.{Wrote}
 use Rattle.ql_app.specs.Words.{NamedRequest, IsRequest, OneFile, TwoFiles}
 use Rattle.ql_commands.specs.Classify.{ClassifySays}
-use Rattle.ql_implied.specs.Commands.{ReportsLeast, ReportsNone}
+use Rattle.ql_verdicts.specs.Commands.{ReportsLeast, ReportsNone}
 use Rattle.ql_app.proofs.OutcomeLaws.{of_held}
 
 -- the first byte of the first argument

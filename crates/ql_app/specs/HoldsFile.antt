@@ -4,14 +4,14 @@ use Rattle.std.specs.Prelude.{◌≡◌, ℕ, ◌<◌, ◌≤◌, ◌^◌, List,
 use Rattle.ql_base.specs.declared.limits.TheConstants.{MAX_WORK}
 use Rattle.ql_lines.specs.Lines.{ahead_from, texts_of}
 use Rattle.ql_formula.specs.Truth.{Holds, IsFirstFalse, none_inside}
-use Rattle.ql_line_files.specs.declared.fault.Broken.{Broken}
+use Rattle.ql_lines.specs.declared.fault.Broken.{Broken}
 use Rattle.ql_holds_files.specs.declared.rules.HoldsRule.{HoldsRule}
 use Rattle.ql_holds_files.specs.declared.rules.HoldsRule.TheVariants.{Unexpected, Unknown, Twice, TxnAtom, Variables, Range, NotForward, OtherObject, TooMany}
 use Rattle.ql_holds_files.specs.HoldsFile.{Asked}
-use Rattle.ql_holds_grammar.specs.FirstFaults.{FirstHoldsFault}
-use Rattle.ql_holds_grammar.specs.Grammar.{HoldsTree, IsHoldsFile}
-use Rattle.ql_holds_grammar.specs.Questions.{IsQuestionOf}
-use Rattle.ql_holds_grammar.specs.TreeRules.{HasCurrent, KeepsRules}
+use Rattle.ql_holds_files.specs.FirstFaults.{FirstHoldsFault}
+use Rattle.ql_holds_files.specs.Grammar.{HoldsTree, IsHoldsFile}
+use Rattle.ql_holds_files.specs.Questions.{IsQuestionOf}
+use Rattle.ql_holds_files.specs.TreeRules.{HasCurrent, KeepsRules}
 use Rattle.ql_reply.specs.Lines.{fault_line}
 use Rattle.ql_reply.specs.declared.status.Status.{Status}
 use Rattle.ql_reply.specs.declared.status.Status.TheVariants.{Done, No, Bad, ReadFault, WriteFault, Usage, TooLarge}

@@ -1,6 +1,6 @@
 -- What a reader may quote of `classify`.
 use Rattle.std.specs.Prelude.{◌≡◌, ℕ, List, [], ◌∷◌, ◌++◌, Option, Some, codes}
-use Rattle.ql_implied.specs.Commands.{ReportsLeast, ReportsNone}
+use Rattle.ql_verdicts.specs.Commands.{ReportsLeast, ReportsNone}
 
 -- The arguments are `classify NAME`, the file holds these bytes, and so much was written before: then a text was appended of
 -- which this is said.

@@ -17,8 +17,8 @@ pub fn holds(alloc: Global, bytes: &[u8]) -> Result<Reply, NoMemory>
     ensures { IfOk result (λ reply. HoldsSays bytes.now reply.status reply.text.items) }
 {
     ql_holds_files::one_holding();
-    ql_holds_grammar::holds_files_are_read();
-    ql_holds_grammar::first_faults_are_of_the_grammar();
+    ql_holds_files::holds_files_are_read();
+    ql_holds_files::first_faults_are_of_the_grammar();
     match parse_holds(alloc, bytes) {
         Ok(holding) => truth_of(alloc, &holding),
         Err(fault) => bad_holds(alloc, fault),

@@ -11,16 +11,15 @@ ghost use Rattle.ql_app.specs.RunWritten.{WritesJson, WritesRun};
 ghost use Rattle.ql_app.specs.Words.{IsInRange};
 ghost use Rattle.ql_gen.specs.Generated.{generated};
 ghost use Rattle.ql_headline.specs.Stores.{rules_of};
-ghost use Rattle.ql_machine_laws.specs.Promised.{AllArrived};
+ghost use Rattle.ql_machine.specs.Promised.{AllArrived};
 ghost use Rattle.ql_running.specs.declared.form.Form.{Form};
 ghost use Rattle.ql_running.specs.declared.form.Form.TheVariants.{Text};
-ghost use Rattle.ql_verified_runs.specs.Agreement.{Agree};
+ghost use Rattle.ql_verdicts.specs.Agreement.{Agree};
 
 use ql_commands::what_is_proved_is_accepted;
 use ql_generated::generated_schedules_are_read;
-use ql_implied::reported_levels_are_least;
 use ql_schedule::one_schedule;
-use ql_verified_runs::{printed_runs_hold, replicas_of_runs_agree};
+use ql_verdicts::{printed_runs_hold, replicas_of_runs_agree, reported_levels_are_least};
 
 /// Where `prove` prints a certificate of a source, with status 0, `check` of that source and that certificate ends
 /// with status 0 too.

@@ -1,7 +1,7 @@
 -- What a stored answer says, or its first fault.
 use Rattle.std.specs.Prelude.{◌≡◌, ◌⊎◌, ℕ, true, false, List, [], ◌∷◌, ◌++◌, Result, Ok, Err}
-use Rattle.ql_line_files.specs.Outcomes.{Outcome}
-use Rattle.ql_line_files.specs.declared.fault.Broken.{Broken}
+use Rattle.ql_lines.specs.Outcomes.{Outcome}
+use Rattle.ql_lines.specs.declared.fault.Broken.{Broken}
 use Rattle.ql_lines.specs.Lines.{Numbered, ahead_from}
 use Rattle.ql_baseline.specs.Lines.{IsStored, is_passed}
 use Rattle.ql_baseline.specs.declared.stored.BaselineRule.{BaselineRule}

@@ -7,7 +7,7 @@ use Rattle.ql_levels.specs.declared.level.TxnLevel.{TxnLevel}
 use Rattle.ql_levels.specs.declared.level.TxnLevel.TheVariants.{Rc, Mav, Rr}
 use Rattle.ql_levels.specs.Words.{txn_word_of, word_of}
 use Rattle.ql_lines.specs.Fields.{Fields}
-use Rattle.ql_line_files.specs.declared.fault.Broken.{Broken}
+use Rattle.ql_lines.specs.declared.fault.Broken.{Broken}
 use Rattle.ql_baseline.specs.Files.{GivesLine, closes}
 use Rattle.ql_baseline.specs.Lines.{is_passed, stored_fields}
 use Rattle.ql_baseline.specs.declared.stored.BaselineRule.{BaselineRule}

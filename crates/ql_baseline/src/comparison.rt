@@ -11,7 +11,7 @@ use ql_base::NoMemory;
 use ql_classify::Finding;
 use ql_commands::{bad_source, read_source};
 use ql_explanation::{finding_at, findings, goal_of};
-use ql_line_files::{FileFault, read_file};
+use ql_lines::{FileFault, read_file};
 use ql_reply::{Cause, Part, Reply, Rule, Status};
 use ql_typing::Typed;
 use std::alloc::Global;

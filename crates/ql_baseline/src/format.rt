@@ -4,7 +4,7 @@ ghost use Rattle.ql_baseline.specs.OneLine.{closes_one, closes_some, gives_one, 
 
 use crate::lines::{is_passed, stored_of};
 use crate::stored::{BaselineRule, StoredList};
-use ql_line_files::{Broken, FileFault, LineFault, LineFormat};
+use ql_lines::{Broken, FileFault, LineFault, LineFormat};
 use std::alloc::Global;
 
 /// The format of stored answers.

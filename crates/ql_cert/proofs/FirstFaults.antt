@@ -3,14 +3,14 @@ use Rattle.std.proofs.Common.{◌≡◌, ℕ, Option, None, Some, Result, Ok, Er
 use Rattle.std.proofs.lemmas.List.{append-nil, map-append}
 use Rattle.ql_lines.specs.Fields.{fields_of, Fields}
 use Rattle.ql_lines.specs.Lines.{Ahead, Numbered}
-use Rattle.ql_line_files.specs.declared.fault.Broken.{Broken}
-use Rattle.ql_line_files.specs.declared.fault.FileFault.{FileFault}
-use Rattle.ql_line_files.specs.declared.fault.FileFault.TheVariants as answer
-use Rattle.ql_line_files.specs.Answers.{IsEndAnswer}
-use Rattle.ql_line_files.specs.Outcomes as read
-use Rattle.ql_line_files.specs.Outcomes.{Leads, Outcome, Says}
-use Rattle.ql_line_files.specs.Outcomes.FirstFault.{at_line, at_end}
-use Rattle.ql_line_files.proofs.OneOutcome as law
+use Rattle.ql_lines.specs.declared.fault.Broken.{Broken}
+use Rattle.ql_lines.specs.declared.fault.FileFault.{FileFault}
+use Rattle.ql_lines.specs.declared.fault.FileFault.TheVariants as answer
+use Rattle.ql_lines.specs.Answers.{IsEndAnswer}
+use Rattle.ql_lines.specs.Outcomes as read
+use Rattle.ql_lines.specs.Outcomes.{Leads, Outcome, Says}
+use Rattle.ql_lines.specs.Outcomes.FirstFault.{at_line, at_end}
+use Rattle.ql_lines.proofs.OneOutcome as law
 use Rattle.ql_cert.specs.declared.fault.CertFault.{CertFault}
 use Rattle.ql_cert.specs.declared.fault.CertFault.TheVariants as fault
 use Rattle.ql_cert.specs.declared.fault.CertRule.{CertRule}

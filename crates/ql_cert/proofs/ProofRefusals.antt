@@ -12,9 +12,9 @@ use Rattle.ql_cnf.specs.Literals.{AllAbove, IsAscendingByVariable, clause_of, wi
 use Rattle.ql_cnf.specs.Satisfaction.{AreInRange, ClauseList, with_clause}
 use Rattle.ql_lines.proofs.Conses.{heads}
 use Rattle.ql_lines.specs.Fields.{Fields}
-use Rattle.ql_line_files.specs.Answers.{IsLineAnswer}
-use Rattle.ql_line_files.specs.declared.fault.LineFault.{LineFault}
-use Rattle.ql_line_files.specs.declared.fault.LineFault.TheVariants.{Breaks, NoMemory}
+use Rattle.ql_lines.specs.Answers.{IsLineAnswer}
+use Rattle.ql_lines.specs.declared.fault.LineFault.{LineFault}
+use Rattle.ql_lines.specs.declared.fault.LineFault.TheVariants.{Breaks, NoMemory}
 use Rattle.ql_refute.specs.declared.refutation.Line.{Line}
 use Rattle.ql_cert.specs.declared.fault.CertRule.{CertRule}
 use Rattle.ql_cert.specs.declared.fault.CertRule.TheVariants.{Unexpected, Number}

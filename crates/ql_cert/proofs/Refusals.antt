@@ -7,9 +7,9 @@ use Rattle.ql_base.specs.Numbers.{Spells}
 use Rattle.ql_levels.specs.declared.level.Level.{Level}
 use Rattle.ql_levels.specs.declared.level.TxnLevel.{TxnLevel}
 use Rattle.ql_levels.specs.Words.{word_of, txn_word_of}
-use Rattle.ql_line_files.specs.Answers.{IsLineAnswer}
-use Rattle.ql_line_files.specs.declared.fault.LineFault.{LineFault}
-use Rattle.ql_line_files.specs.declared.fault.LineFault.TheVariants.{Breaks, NoMemory}
+use Rattle.ql_lines.specs.Answers.{IsLineAnswer}
+use Rattle.ql_lines.specs.declared.fault.LineFault.{LineFault}
+use Rattle.ql_lines.specs.declared.fault.LineFault.TheVariants.{Breaks, NoMemory}
 use Rattle.ql_lines.specs.Fields.{Fields}
 use Rattle.ql_refute.specs.declared.refutation.Line.{Line}
 use Rattle.ql_cert.specs.declared.cert.SectionLevel.{SectionLevel}

@@ -1,8 +1,8 @@
 -- The first fault of a line file: the first line with which, after those before it, no file of the grammar begins.
 use Rattle.std.specs.Prelude.{◌≡◌, ℕ, ◌<◌, ◌^◌, List, [], ◌∷◌, ◌++◌, Option, Result, Ok, Err, map, decimal, ok_or}
-use Rattle.ql_line_files.specs.declared.fault.Broken.{Broken}
-use Rattle.ql_line_files.specs.declared.fault.FileFault.{FileFault}
-use Rattle.ql_line_files.specs.declared.fault.FileFault.TheVariants as file
+use Rattle.ql_lines.specs.declared.fault.Broken.{Broken}
+use Rattle.ql_lines.specs.declared.fault.FileFault.{FileFault}
+use Rattle.ql_lines.specs.declared.fault.FileFault.TheVariants as file
 use Rattle.ql_lines.specs.Fields.{fields_of, Fields}
 use Rattle.ql_lines.specs.Lines.{Ahead, Numbered}
 use Rattle.ql_cert.specs.declared.fault.CertFault.{CertFault}

@@ -1,7 +1,7 @@
 ghost use Rattle.std.specs.Prelude.{◌≡◌, ◌↔◌, ◌∷◌, IfOk, IsTrue, codes, decimal};
 ghost use Rattle.std.specs.Option.{option_map};
 ghost use Rattle.ql_base.specs.Names.{IsName};
-ghost use Rattle.ql_line_files.specs.Answers.{IsLineAnswer};
+ghost use Rattle.ql_lines.specs.Answers.{IsLineAnswer};
 ghost use Rattle.ql_lines.specs.Fields.{fields_of};
 ghost use Rattle.ql_cert.specs.declared.cert_reader.CertReading.TheVariants.{Untitled, Within};
 ghost use Rattle.ql_cert.specs.CertFile.{Takes, end_line, heading, opened, said, title, with_last};
@@ -14,8 +14,7 @@ use crate::fault::CertRule;
 use crate::numbered::with_line;
 use ql_base::{NoMemory, Word, is_name, number_of};
 use ql_levels::{level_of, txn_of};
-use ql_line_files::{Broken, FileFault, LineFault, LineFormat};
-use ql_lines::first_field;
+use ql_lines::{Broken, FileFault, LineFault, LineFormat, first_field};
 use ql_refute::{Lines, Refutation};
 use std::alloc::Global;
 

@@ -1,7 +1,7 @@
 ghost use Rattle.std.specs.Prelude.{◌≡◌};
 ghost use Rattle.ql_cert.specs.Faults.{fault_of};
 
-use ql_line_files::{Broken, FileFault};
+use ql_lines::{Broken, FileFault};
 
 /// Why a text isn't a certificate or proof, with the number of the first faulty line, from 1. If the file ends
 /// too early, that is the line after its last.

@@ -1,10 +1,10 @@
-ghost use Rattle.ql_line_files.specs.Answers.{IsLineAnswer};
+ghost use Rattle.ql_lines.specs.Answers.{IsLineAnswer};
 ghost use Rattle.ql_lines.specs.Fields.{fields_of};
 ghost use Rattle.ql_cert.specs.Readings.{Extends};
 
 use crate::fault::CertRule;
 use crate::line::line_body;
-use ql_line_files::LineFault;
+use ql_lines::LineFault;
 use ql_refute::Lines;
 use std::alloc::Global;
 

@@ -6,7 +6,7 @@ ghost use Rattle.ql_cert.specs.Faults.{IsRefusal, fields_in};
 use crate::cert::Cert;
 use crate::cert_reader::CertFormat;
 use crate::fault::{CertFault, fault_of};
-use ql_line_files::read_file;
+use ql_lines::read_file;
 use std::alloc::Global;
 
 /// The certificate that a file spells, or the file's first fault.

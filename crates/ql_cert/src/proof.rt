@@ -6,7 +6,7 @@ ghost use Rattle.ql_cert.specs.ProofFile.{IsProofFile, IsProofOf};
 use crate::fault::{CertFault, fault_of};
 use crate::proof_reader::ProofFormat;
 use ql_cnf::Clauses;
-use ql_line_files::read_file;
+use ql_lines::read_file;
 use ql_refute::Refutation;
 use std::alloc::Global;
 

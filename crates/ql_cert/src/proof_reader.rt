@@ -1,6 +1,6 @@
 ghost use Rattle.std.specs.Prelude.{◌≡◌, ◌↔◌, ◌∷◌, ◌+◌, ◌^◌, ◌<◌, ◌≤◌, IsTrue, codes, decimal, length};
 ghost use Rattle.std.specs.Option.{option_map};
-ghost use Rattle.ql_line_files.specs.Answers.{IsLineAnswer};
+ghost use Rattle.ql_lines.specs.Answers.{IsLineAnswer};
 ghost use Rattle.ql_lines.specs.Fields.{fields_of};
 ghost use Rattle.ql_cert.specs.declared.proof_reader.ProofReading.TheVariants.{Unbegun, Within};
 ghost use Rattle.ql_cert.specs.Faults.{Closes, Gives};
@@ -15,8 +15,7 @@ use crate::line::literals;
 use crate::numbered::with_line;
 use ql_base::number_of;
 use ql_cnf::{Clauses, are_in_range};
-use ql_line_files::{Broken, FileFault, LineFault, LineFormat};
-use ql_lines::first_field;
+use ql_lines::{Broken, FileFault, LineFault, LineFormat, first_field};
 use ql_refute::Lines;
 use std::alloc::Global;
 

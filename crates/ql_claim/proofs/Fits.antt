@@ -15,7 +15,7 @@ use Rattle.ql_exec.specs.Effects.{effect_at}
 use Rattle.ql_exec.specs.Execution.{IsExecution, with_stamp}
 use Rattle.ql_effect_lines.specs.declared.effect_line.EffectLine.{EffectLine}
 use Rattle.ql_effect_lines.specs.Effects.{draft_of_line, member_of_line, type_number_of}
-use Rattle.ql_execution_grammar.specs.Readings.{SaysExecution, effect_said, objects_in}
+use Rattle.ql_execution_files.specs.Readings.{SaysExecution, effect_said, objects_in}
 use Rattle.ql_implication.specs.Executions.{FitsProgram}
 use Rattle.ql_judging.specs.Verify.{ReportsExecution}
 use Rattle.ql_lang.specs.declared.program.Program.{Program}

@@ -12,7 +12,7 @@ use Rattle.ql_app.specs.Outcome.{Says}
 use Rattle.ql_reply.specs.Wrote.{Wrote}
 use Rattle.ql_commands.specs.Check.{CheckSays, order_text}
 use Rattle.ql_commands.specs.Classify.{ClassifySays}
-use Rattle.ql_implied.specs.Commands.{ReportsAccepted}
+use Rattle.ql_verdicts.specs.Commands.{ReportsAccepted}
 use Rattle.ql_claim.specs.Headline.{Gained}
 use Rattle.ql_claim.specs.Soundness.{IsSoundAnswer, Soundness}
 use Rattle.ql_claim.proofs.Asked.{asks-check, asks-classify, said-of-file, said-of-files}

@@ -24,7 +24,7 @@ use Rattle.ql_commands.proofs.FoundNames.{found, op-found, txn-found}
 use Rattle.ql_implication.specs.OfPrograms.{GivesContract}
 use Rattle.ql_implication.specs.Executions.{IsImplied, IsImpliedTxn}
 use Rattle.ql_classify.specs.Least.{AreEnough}
-use Rattle.ql_implied.specs.Commands.{AcceptsPrefix, EachGives, EndsWith, ReportsAccepted, accepted_lines}
+use Rattle.ql_verdicts.specs.Commands.{AcceptsPrefix, EachGives, EndsWith, ReportsAccepted, accepted_lines}
 use Rattle.ql_lang.specs.Formulas.{Resolved}
 use Rattle.ql_lang.specs.declared.operation.OpDecl.{OpDecl}
 use Rattle.ql_lang.specs.declared.program.Program.{Program}

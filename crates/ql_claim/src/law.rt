@@ -18,8 +18,8 @@ ghost use Rattle.ql_claim.specs.Soundness.{Soundness};
 
 use ql_app::contracts_hold_in_runs;
 use ql_implication::countermodels_refute;
-use ql_implied::{accepted_lines_give_contracts, strong_uses_are_reported};
 use ql_parse::one_program_answer;
+use ql_verdicts::{accepted_lines_give_contracts, strong_uses_are_reported};
 
 /// The headline, of what `quelea` wrote by its clause `wrote`: with status 0, to `run` of a source and a schedule, the text
 /// of the schedule's run at the source's least levels, in which every contract holds and each answer is the fold of what its

@@ -24,8 +24,8 @@ use Rattle.ql_typing.specs.Faults.{names_met}
 use Rattle.ql_typing.specs.Resolved.{statement_in, resolved_in, term_of}
 use Rattle.ql_ground.specs.Bodies.{holds, constant_of, relation_circuit, grouped, all_of, other_circuits, txn_circuit, body_circuit}
 use Rattle.ql_ground.specs.SmallBodies.{IsBodyWithin, AreBodiesWithin}
-use Rattle.ql_printed.specs.Printed.{relation_nodes, prop_nodes}
-use Rattle.ql_printed.specs.PrintedPrograms.{EachOfOperation, EachOfType, EachOfTransaction, HasFewNodes, expression_nodes}
+use Rattle.ql_parse.specs.Printed.{relation_nodes, prop_nodes}
+use Rattle.ql_parse.specs.PrintedPrograms.{EachOfOperation, EachOfType, EachOfTransaction, HasFewNodes, expression_nodes}
 
 relation_small : (s : Size) (r : Relation) (i j : ℕ) → gates (relation_circuit s r i j) ≤ relation_nodes r
 relation_small s (Basic Soo at) i j = omega arith

@@ -6,8 +6,7 @@ ghost use Rattle.ql_commands.specs.Sources.{DeniesSource, IsSourceFault, IsSourc
 ghost use Rattle.ql_commands.specs.declared.source_fault.SourceFault.{SourceFault};
 
 use crate::source_fault::SourceFault;
-use ql_parse::{one_program_answer, parse_program};
-use ql_printed::source_printed_again;
+use ql_parse::{one_program_answer, parse_program, source_printed_again};
 use ql_typing::{Typed, typecheck};
 use std::alloc::Global;
 

@@ -13,14 +13,14 @@ use Rattle.ql_exec.specs.declared.effect.Member.{Member}
 use Rattle.ql_formula.specs.Truth.{Chosen}
 use Rattle.ql_typing.specs.WellFormed.{AreBelow, AreChoicesOf}
 use Rattle.ql_ground.specs.Ground.{variable_operations, all_variable_operations}
-use Rattle.ql_blocks.specs.declared.slot.Slot.{Slot}
-use Rattle.ql_blocks.specs.declared.slot.Extra.{Extra}
-use Rattle.ql_blocks.specs.Patterns.{Pattern, leader}
-use Rattle.ql_blocks.specs.Built.{op_in, built, constant_place}
-use Rattle.ql_blocks.proofs.Alike.{leader-equal}
-use Rattle.ql_blocks.proofs.Building.{there-effect}
-use Rattle.ql_blocks.proofs.Arranged.{IsArranged}
-use Rattle.ql_blocks.proofs.Agreement.{place-is}
+use Rattle.ql_counter.specs.declared.slot.Slot.{Slot}
+use Rattle.ql_counter.specs.declared.slot.Extra.{Extra}
+use Rattle.ql_counter.specs.Patterns.{Pattern, leader}
+use Rattle.ql_counter.specs.Built.{op_in, built, constant_place}
+use Rattle.ql_counter.proofs.Alike.{leader-equal}
+use Rattle.ql_counter.proofs.Building.{there-effect}
+use Rattle.ql_counter.proofs.Arranged.{IsArranged}
+use Rattle.ql_counter.proofs.Agreement.{place-is}
 use Rattle.ql_counter.specs.Assigned.{pattern_of}
 use Rattle.ql_counter.proofs.Firing.{AllHold, both-hold}
 use Rattle.ql_counter.proofs.Reading.{Axioms, op-only, pattern-lawful, variable-op}

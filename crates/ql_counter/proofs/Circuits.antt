@@ -18,10 +18,10 @@ use Rattle.ql_ground.specs.Bodies.{constant_of, holds, fails, named_circuit, rel
 use Rattle.ql_exec.specs.declared.effect.Effect.{Effect}
 use Rattle.ql_exec.specs.Relations.{sametxn}
 use Rattle.ql_formula.specs.Truth.{named, related, in_one_txn, place_of, statement_true}
-use Rattle.ql_blocks.specs.declared.slot.Extra.{Extra}
-use Rattle.ql_blocks.specs.Naming.{Shows}
+use Rattle.ql_counter.specs.declared.slot.Extra.{Extra}
+use Rattle.ql_counter.specs.Naming.{Shows}
 use Rattle.ql_counter.specs.Assigned.{names, mentions, is_hb, is_hbo, extra_of}
-use Rattle.ql_blocks.specs.Blocks.{no_parts}
+use Rattle.ql_counter.specs.Blocks.{no_parts}
 use Rattle.ql_counter.proofs.Firing.{yes-value, no-value}
 
 -- ---- the relations that a statement names have the chains that they need

@@ -7,11 +7,11 @@ use Rattle.ql_exec.specs.declared.effect.Effect.{Effect}
 use Rattle.ql_exec.specs.declared.effect.Member.{Member}
 use Rattle.ql_exec.specs.Execution.{IsExecution}
 use Rattle.ql_lang.specs.Formulas.{Resolved}
-use Rattle.ql_blocks.specs.declared.slot.Extra.{Extra}
-use Rattle.ql_blocks.specs.declared.slot.Slot.{Slot}
-use Rattle.ql_blocks.specs.Patterns.{least}
-use Rattle.ql_blocks.specs.Blocks.{no_parts, slots_of}
-use Rattle.ql_blocks.specs.Built.{built, constant_place}
+use Rattle.ql_counter.specs.declared.slot.Extra.{Extra}
+use Rattle.ql_counter.specs.declared.slot.Slot.{Slot}
+use Rattle.ql_counter.specs.Patterns.{least}
+use Rattle.ql_counter.specs.Blocks.{no_parts, slots_of}
+use Rattle.ql_counter.specs.Built.{built, constant_place}
 use Rattle.ql_counter.specs.declared.counter.At.TheVariants.{Effect as AtEffect, Run}
 use Rattle.ql_counter.specs.Assigned.{alone, begun, constant_places, current_by, extra_of, op_current, op_execution, op_places, pattern_of, run_by, txn_current, txn_execution, txn_pattern, txn_places}
 use Rattle.ql_counter.specs.Coded.{IsLawfulOp, IsLawfulTxn}

@@ -11,3 +11,13 @@ pub mod Made
 pub mod Programs
 pub mod Joined
 pub mod Within
+pub mod EqualConstants
+pub mod Building
+pub mod Alike
+pub mod Arranged
+pub mod Closures
+pub mod Agreement
+pub mod OpLevels
+pub mod Order
+pub mod Arranging
+pub mod TxnLevels

@@ -2,9 +2,9 @@
 use Rattle.std.proofs.Common.{◌≡◌, ℕ, zero, suc, ◌+◌, ◌<◌, ◌≤◌, Bool, true, false, refl, sym, ap, ◌∙◌, inl, inr, arith}
 use Rattle.std.proofs.lemmas.Bool.{both_ways, cases_eq, cases_lt, or_from}
 use Rattle.ql_exec.specs.Relations.{some_below}
-use Rattle.ql_blocks.specs.Patterns.{least}
-use Rattle.ql_blocks.proofs.Classes.{least-bound, least-found, least-passes}
-use Rattle.ql_blocks.proofs.Agreement.{below-found}
+use Rattle.ql_counter.specs.Patterns.{least}
+use Rattle.ql_counter.proofs.EqualConstants.{least-bound, least-found, least-passes}
+use Rattle.ql_counter.proofs.Agreement.{below-found}
 
 -- no number below n passes
 abbrev pub NoneBelow : ℕ → (ℕ → Bool) → Type 0

@@ -15,15 +15,15 @@ use Rattle.ql_exec.specs.Execution.{IsExecution, effect_of, fault_of, made_after
 use Rattle.ql_exec.proofs.Finding.{effect_at-last}
 use Rattle.ql_exec.proofs.Law.{IsExecution-front, fault_of-None}
 use Rattle.ql_exec.proofs.Making.{made_step}
-use Rattle.ql_blocks.specs.declared.slot.Extra.{Extra}
-use Rattle.ql_blocks.specs.declared.slot.Part.TheVariants.{Own}
-use Rattle.ql_blocks.specs.declared.slot.Slot.{Slot}
-use Rattle.ql_blocks.specs.Patterns.{Pattern, least}
-use Rattle.ql_blocks.specs.Blocks.{ranked_slots, slot_of, slots_of}
-use Rattle.ql_blocks.specs.Built.{constant_place, is_own, places_from, stored_after}
-use Rattle.ql_blocks.proofs.Arranging.{Placed, slots-placed}
-use Rattle.ql_blocks.proofs.Building.{seen-to, stored-end, stored-step}
-use Rattle.ql_blocks.proofs.Order.{each-at}
+use Rattle.ql_counter.specs.declared.slot.Extra.{Extra}
+use Rattle.ql_counter.specs.declared.slot.Part.TheVariants.{Own}
+use Rattle.ql_counter.specs.declared.slot.Slot.{Slot}
+use Rattle.ql_counter.specs.Patterns.{Pattern, least}
+use Rattle.ql_counter.specs.Blocks.{ranked_slots, slot_of, slots_of}
+use Rattle.ql_counter.specs.Built.{constant_place, is_own, places_from, stored_after}
+use Rattle.ql_counter.proofs.Arranging.{Placed, slots-placed}
+use Rattle.ql_counter.proofs.Building.{seen-to, stored-end, stored-step}
+use Rattle.ql_counter.proofs.Order.{each-at}
 use Rattle.ql_counter.specs.Assigned.{constant_places}
 use Rattle.ql_counter.proofs.Choosing.{ones-length}
 use Rattle.ql_counter.proofs.Loops.{NoneBelow, least-is, least-none}

@@ -24,17 +24,17 @@ use Rattle.ql_ground.specs.Bodies.{constant_of, current_effect, holds, named_cir
 use Rattle.ql_ground.specs.Rules.{equality_rules, level_rule}
 use Rattle.ql_ground.specs.Ground.{implication, instances, all_instances, alike_operations, axioms, all_variable_operations, op_size, op_ground, op_problem}
 use Rattle.ql_implication.specs.Countermodels.{IsCounter}
-use Rattle.ql_blocks.specs.declared.slot.Extra.{Extra}
-use Rattle.ql_blocks.specs.declared.slot.Slot.{Slot}
-use Rattle.ql_blocks.specs.Patterns.{Pattern}
-use Rattle.ql_blocks.specs.Lawful.{IsGrouped, IsLawful}
-use Rattle.ql_blocks.specs.Built.{constant_place}
-use Rattle.ql_blocks.specs.Naming.{named_by}
-use Rattle.ql_blocks.proofs.Building.{built-length}
-use Rattle.ql_blocks.proofs.Arranged.{IsArranged, built-lawful}
-use Rattle.ql_blocks.proofs.Agreement.{named-agrees}
-use Rattle.ql_blocks.proofs.OpLevels.{op-holds}
-use Rattle.ql_blocks.proofs.Arranging.{slots-arranged, slots-short}
+use Rattle.ql_counter.specs.declared.slot.Extra.{Extra}
+use Rattle.ql_counter.specs.declared.slot.Slot.{Slot}
+use Rattle.ql_counter.specs.Patterns.{Pattern}
+use Rattle.ql_counter.specs.Lawful.{IsGrouped, IsLawful}
+use Rattle.ql_counter.specs.Built.{constant_place}
+use Rattle.ql_counter.specs.Naming.{named_by}
+use Rattle.ql_counter.proofs.Building.{built-length}
+use Rattle.ql_counter.proofs.Arranged.{IsArranged, built-lawful}
+use Rattle.ql_counter.proofs.Agreement.{named-agrees}
+use Rattle.ql_counter.proofs.OpLevels.{op-holds}
+use Rattle.ql_counter.proofs.Arranging.{slots-arranged, slots-short}
 use Rattle.ql_counter.specs.Assigned.{related_by, pattern_of, extra_of, alone, op_pattern, op_slots, op_execution, op_current, op_places}
 use Rattle.ql_counter.proofs.Firing.{AllHold, both-hold, denied, fires, only, value, yes-value}
 use Rattle.ql_counter.proofs.Reading.{Axioms, axioms-from, level-promised, one-type, op-is, op-only, pattern-lawful}

@@ -20,9 +20,9 @@ use Rattle.ql_ground.specs.Bodies.{current_effect}
 use Rattle.ql_ground.specs.Rules.{equality_rules, alike_op, alike_left, alike_right, reflexive, symmetric, transitive, within, irreflexive, session_rules, from_one_rule, to_one_rule, object_rules, object_order_rules, of_session_rule, order_rules, level_rule}
 use Rattle.ql_ground.specs.Ground.{chosen, implication, instances, all_instances, alike_operations, some_operation, one_operation, one_type, axioms, variable_operations}
 use Rattle.ql_ground.proofs.Instances.{SomeTrue}
-use Rattle.ql_blocks.specs.Patterns.{Pattern}
-use Rattle.ql_blocks.specs.Lawful.{Has, IsLawful, Promises}
-use Rattle.ql_blocks.proofs.Classes.{least-found}
+use Rattle.ql_counter.specs.Patterns.{Pattern}
+use Rattle.ql_counter.specs.Lawful.{Has, IsLawful, Promises}
+use Rattle.ql_counter.proofs.EqualConstants.{least-found}
 use Rattle.ql_counter.specs.Assigned.{pattern_of}
 use Rattle.ql_counter.proofs.Firing.{AllHold, both-hold, fires, only, pick, upto-each, use_rule, value}
 

@@ -24,16 +24,16 @@ use Rattle.ql_ground.specs.Bodies.{constant_of, body_circuit}
 use Rattle.ql_ground.specs.Rules.{equality_rules, alike_current, reflexive, symmetric, transitive, transaction_rules, one_session_rule, contiguous_rule, in_one_rule, whole_rule, committed_rule, monotonic_rule, repeatable_rule, txn_level_rules}
 use Rattle.ql_ground.specs.Ground.{chosen, instances, all_instances, alike_operations, axioms, all_variable_operations, txn_size, txn_ground, txn_problem}
 use Rattle.ql_implication.specs.Countermodels.{IsTxnCounter}
-use Rattle.ql_blocks.specs.declared.slot.Slot.{Slot}
-use Rattle.ql_blocks.specs.Patterns.{Pattern}
-use Rattle.ql_blocks.specs.Lawful.{Has, IsLawful, IsTxnLawful, TxnPromises}
-use Rattle.ql_blocks.specs.Blocks.{no_parts}
-use Rattle.ql_blocks.specs.Built.{constant_place}
-use Rattle.ql_blocks.proofs.Building.{built-length, effect-is}
-use Rattle.ql_blocks.proofs.Arranged.{IsArranged, built-lawful}
-use Rattle.ql_blocks.proofs.Agreement.{named-agrees}
-use Rattle.ql_blocks.proofs.Arranging.{slots-arranged, slots-short}
-use Rattle.ql_blocks.proofs.TxnLevels.{inside-agrees, inside-closed, txn-agrees, txn-grouped, txn-holds}
+use Rattle.ql_counter.specs.declared.slot.Slot.{Slot}
+use Rattle.ql_counter.specs.Patterns.{Pattern}
+use Rattle.ql_counter.specs.Lawful.{Has, IsLawful, IsTxnLawful, TxnPromises}
+use Rattle.ql_counter.specs.Blocks.{no_parts}
+use Rattle.ql_counter.specs.Built.{constant_place}
+use Rattle.ql_counter.proofs.Building.{built-length, effect-is}
+use Rattle.ql_counter.proofs.Arranged.{IsArranged, built-lawful}
+use Rattle.ql_counter.proofs.Agreement.{named-agrees}
+use Rattle.ql_counter.proofs.Arranging.{slots-arranged, slots-short}
+use Rattle.ql_counter.proofs.TxnLevels.{inside-agrees, inside-closed, txn-agrees, txn-grouped, txn-holds}
 use Rattle.ql_counter.specs.Assigned.{begun, current_by, txn_current, txn_execution, txn_pattern, txn_places, txn_slots}
 use Rattle.ql_counter.proofs.Firing.{AllHold, both-hold, denied, pick, use_rule, value, yes-value}
 use Rattle.ql_counter.proofs.Reading.{Axioms, axioms-from, by-reflexive, by-symmetric, by-transitive, has-from, has-to, one-type, op-is, pattern-lawful}

@@ -7,13 +7,13 @@ use Rattle.ql_atoms.specs.declared.atoms.PairKind.TheVariants.{SameObj}
 use Rattle.ql_lang.specs.Formulas.{Resolved}
 use Rattle.ql_lang.specs.declared.program.Program.{Program}
 use Rattle.ql_exec.specs.declared.effect.Effect.{Effect}
-use Rattle.ql_blocks.specs.declared.slot.Part.{Part}
-use Rattle.ql_blocks.specs.declared.slot.Part.TheVariants.{Opening, Aide, Own, Closing}
-use Rattle.ql_blocks.specs.declared.slot.Slot.{Slot}
-use Rattle.ql_blocks.specs.Patterns.{Pattern}
-use Rattle.ql_blocks.specs.Built.{built, object_in}
-use Rattle.ql_blocks.proofs.Building.{effect-is, slot_at}
-use Rattle.ql_blocks.proofs.Classes.{least-bound}
+use Rattle.ql_counter.specs.declared.slot.Part.{Part}
+use Rattle.ql_counter.specs.declared.slot.Part.TheVariants.{Opening, Aide, Own, Closing}
+use Rattle.ql_counter.specs.declared.slot.Slot.{Slot}
+use Rattle.ql_counter.specs.Patterns.{Pattern}
+use Rattle.ql_counter.specs.Built.{built, object_in}
+use Rattle.ql_counter.proofs.Building.{effect-is, slot_at}
+use Rattle.ql_counter.proofs.EqualConstants.{least-bound}
 use Rattle.ql_counter.specs.declared.counter.Counter.{Counter}
 use Rattle.ql_counter.specs.Assigned.{op_pattern, op_slots, txn_pattern, txn_slots}
 use Rattle.ql_counter.specs.Countermodels.{AreWithin, IsBuiltOfOp, IsBuiltOfTxn, IsDeclared}

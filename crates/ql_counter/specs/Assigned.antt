@@ -15,11 +15,11 @@ use Rattle.ql_ground.specs.Ground.{op_size, txn_size}
 use Rattle.ql_exec.specs.declared.effect.Effect.{Effect}
 use Rattle.ql_exec.specs.declared.effect.Member.{Member}
 use Rattle.ql_exec.specs.declared.effect.Member.TheVariants.{Alone, Inside}
-use Rattle.ql_blocks.specs.declared.slot.Extra.{Extra}
-use Rattle.ql_blocks.specs.declared.slot.Slot.{Slot}
-use Rattle.ql_blocks.specs.Patterns.{Pattern, least, class_of}
-use Rattle.ql_blocks.specs.Blocks.{no_parts, slots_of}
-use Rattle.ql_blocks.specs.Built.{built, constant_place}
+use Rattle.ql_counter.specs.declared.slot.Extra.{Extra}
+use Rattle.ql_counter.specs.declared.slot.Slot.{Slot}
+use Rattle.ql_counter.specs.Patterns.{Pattern, least, class_of}
+use Rattle.ql_counter.specs.Blocks.{no_parts, slots_of}
+use Rattle.ql_counter.specs.Built.{built, constant_place}
 
 -- the relations of an assignment, only between constants within the size
 abbrev pub related_by : List Bool → Size → PairKind → ℕ → ℕ → Bool

@@ -7,11 +7,11 @@ use Rattle.ql_atoms.specs.Atoms.{Size, size_of}
 use Rattle.ql_exec.specs.declared.effect.Member.{Member}
 use Rattle.ql_exec.specs.declared.effect.Member.TheVariants.{Alone}
 use Rattle.ql_exec.specs.Execution.{IsExecution}
-use Rattle.ql_blocks.specs.declared.slot.Part.{Part}
-use Rattle.ql_blocks.specs.declared.slot.Part.TheVariants.{Opening, Aide, Own, Closing}
-use Rattle.ql_blocks.specs.Patterns.{Pattern, one_session}
-use Rattle.ql_blocks.specs.Blocks.{is_link, no_parts, slots_of}
-use Rattle.ql_blocks.specs.Built.{built}
+use Rattle.ql_counter.specs.declared.slot.Part.{Part}
+use Rattle.ql_counter.specs.declared.slot.Part.TheVariants.{Opening, Aide, Own, Closing}
+use Rattle.ql_counter.specs.Patterns.{Pattern, one_session}
+use Rattle.ql_counter.specs.Blocks.{is_link, no_parts, slots_of}
+use Rattle.ql_counter.specs.Built.{built}
 use Rattle.ql_lang.specs.Formulas.{Resolved}
 use Rattle.ql_lang.specs.declared.relation.RelName.{RelName}
 use Rattle.ql_counter.specs.Assigned.{alone, begun, extra_of, is_hb, is_hbo, pattern_of}

@@ -3,14 +3,14 @@ ghost use Rattle.std.specs.Prelude.{◌≡◌, ◌<◌, ◌≤◌, ◌++◌, len
 ghost use Rattle.std.specs.List.{All};
 ghost use Rattle.ql_base.specs.Ranges.{upto};
 ghost use Rattle.ql_exec.specs.Relations.{some_below};
-ghost use Rattle.ql_blocks.specs.Blocks.{block_slots, has_part, is_link, part_slots, rank, ranked_slots, slots_of};
+ghost use Rattle.ql_counter.specs.Blocks.{block_slots, has_part, is_link, part_slots, rank, ranked_slots, slots_of};
 ghost use Rattle.ql_counter.specs.Coded.{needs, said};
 
 use crate::classes::{Likeness, class};
 use crate::constants::related;
+use crate::slot::{Extra, Part, Slot};
 use ql_atoms::{PairKind, Shape};
 use ql_base::NoMemory;
-use ql_blocks::{Extra, Part, Slot};
 use std::alloc::Global;
 
 /// The effects of all blocks.

@@ -1,6 +1,6 @@
 // Classes of constants that are alike, each named by its least member.
 ghost use Rattle.std.specs.Prelude.{◌≡◌, ◌≤◌};
-ghost use Rattle.ql_blocks.specs.Patterns.{class_of, one_session};
+ghost use Rattle.ql_counter.specs.Patterns.{class_of, one_session};
 ghost use Rattle.ql_counter.specs.Coded.{alike_by, said};
 
 use crate::constants::related;

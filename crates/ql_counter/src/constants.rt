@@ -2,7 +2,7 @@
 ghost use Rattle.std.specs.Prelude.{◌≡◌, ◌<◌, ◌≤◌};
 ghost use Rattle.ql_atoms.specs.Atoms.{size_of};
 ghost use Rattle.ql_cnf.specs.Satisfaction.{variable_value};
-ghost use Rattle.ql_blocks.specs.Patterns.{least};
+ghost use Rattle.ql_counter.specs.Patterns.{least};
 ghost use Rattle.ql_counter.specs.Assigned.{current_by, operation_by, related_by};
 
 use ql_atoms::{Atom, PairKind, Shape, number};

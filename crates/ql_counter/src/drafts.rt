@@ -3,15 +3,15 @@ ghost use Rattle.std.specs.Prelude.{◌≡◌, ◌<◌, ◌^◌, if◌then◌els
 ghost use Rattle.std.specs.List.{All};
 ghost use Rattle.ql_base.specs.IdLists.{with_id};
 ghost use Rattle.ql_atoms.specs.Atoms.{size_of};
-ghost use Rattle.ql_blocks.specs.Built.{draft_of, drafts_of, object_in, op_in, places_from, sees};
+ghost use Rattle.ql_counter.specs.Built.{draft_of, drafts_of, object_in, op_in, places_from, sees};
 ghost use Rattle.ql_counter.specs.Assigned.{pattern_of};
 ghost use Rattle.ql_counter.specs.Coded.{members_by, said};
 
 use crate::classes::{Likeness, class};
 use crate::constants::{operation, related};
+use crate::slot::{Part, Slot};
 use ql_atoms::{PairKind, Shape};
 use ql_base::{DeclId, IdSet, NoMemory, ObjId, OpId, RunId, SessId};
-use ql_blocks::{Part, Slot};
 use ql_exec::{Draft, Member, Payload};
 use ql_value::{Value, Values};
 use std::alloc::Global;

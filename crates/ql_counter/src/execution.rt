@@ -2,15 +2,15 @@
 ghost use Rattle.std.specs.Prelude.{◌≡◌, ◌<◌, ◌≤◌, length, IfOk};
 ghost use Rattle.std.specs.List.{All};
 ghost use Rattle.ql_atoms.specs.Atoms.{size_of};
-ghost use Rattle.ql_blocks.specs.Built.{built};
+ghost use Rattle.ql_counter.specs.Built.{built};
 ghost use Rattle.ql_exec.specs.Execution.{IsExecution};
 ghost use Rattle.ql_counter.specs.Assigned.{pattern_of};
 ghost use Rattle.ql_counter.specs.Coded.{members_by};
 
 use crate::drafts::drafts;
+use crate::slot::Slot;
 use ql_atoms::Shape;
 use ql_base::{DeclId, NoMemory};
-use ql_blocks::Slot;
 use ql_exec::{ExecFault, Execution};
 use std::alloc::Global;
 

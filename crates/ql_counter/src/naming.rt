@@ -5,7 +5,7 @@ ghost use Rattle.ql_lang.specs.Trees.{relation_of};
 ghost use Rattle.ql_counter.specs.Assigned as assigned;
 ghost use Rattle.ql_counter.specs.Coded.{is_closure};
 
-use ql_blocks::Extra;
+use crate::slot::Extra;
 use ql_lang::{Body, Rel, RelName};
 
 /// Happens-before on one object, or across objects.

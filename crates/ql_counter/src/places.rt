@@ -1,14 +1,14 @@
 // The effects that stand for constants.
 ghost use Rattle.std.specs.Prelude.{◌≡◌, ◌<◌, ◌≤◌, ◌^◌, length, map, IfOk};
-ghost use Rattle.ql_blocks.specs.Built.{constant_place};
-ghost use Rattle.ql_blocks.specs.Built as built;
+ghost use Rattle.ql_counter.specs.Built.{constant_place};
+ghost use Rattle.ql_counter.specs.Built as built;
 ghost use Rattle.ql_counter.specs.Assigned.{constant_places};
 ghost use Rattle.ql_counter.specs.Coded.{said};
 
 use crate::classes::{Likeness, class};
+use crate::slot::{Part, Slot};
 use ql_atoms::Shape;
 use ql_base::{EffId, NoMemory};
-use ql_blocks::{Part, Slot};
 use ql_formula::Places;
 use std::alloc::Global;
 

@@ -10,7 +10,7 @@ use Rattle.ql_effect_lines.specs.declared.effect_line.EffectLine.{EffectLine}
 use Rattle.ql_effect_lines.specs.declared.setting.Setting.{Setting}
 use Rattle.ql_effect_lines.specs.Parts.{FieldAt, FieldsAt, ValueAt, ValuesAt}
 use Rattle.ql_effect_lines.specs.EffectLine.{CallAt, EmitAt, IsEffectLine, IsSetting, PayloadAt, setting_fields}
-use Rattle.ql_line_files.proofs.WrittenNumbers.{same_numbers}
+use Rattle.ql_lines.proofs.WrittenNumbers.{same_numbers}
 use Rattle.ql_effect_lines.proofs.FirstFields.{fields_at, one_first, one_row}
 use Rattle.ql_effect_lines.proofs.Parts.{gap_gone, list_starts, no_list, one_field, one_list, one_value, part_of, value_starts}
 use Rattle.ql_effect_lines.proofs.Txns.{one_txn}

@@ -15,7 +15,7 @@ use Rattle.ql_exec.specs.declared.effect.Member.TheVariants.{Alone, Inside}
 use Rattle.ql_exec.specs.declared.fault.ExecFault.{ExecFault}
 use Rattle.ql_exec.specs.declared.fault.ExecFault.TheVariants as exec
 use Rattle.ql_exec.specs.Execution.{effect_of, fault_of, stamp_of}
-use Rattle.ql_line_files.specs.declared.fault.LineFault.{LineFault}
+use Rattle.ql_lines.specs.declared.fault.LineFault.{LineFault}
 use Rattle.ql_effect_lines.specs.declared.effect_line.EffectLine.{EffectLine}
 use Rattle.ql_effect_lines.specs.declared.rules.ReportRule.{ReportRule}
 use Rattle.ql_effect_lines.specs.declared.rules.ReportRule.TheVariants.{Unknown, Mixed, Stamp, NotForward, OtherObject, SplitTxn, TooMany}

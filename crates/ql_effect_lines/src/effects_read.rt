@@ -1,7 +1,7 @@
 ghost use Rattle.std.specs.Prelude.{◌≡◌, ◌≤◌, ◌<◌, ◌+◌, ◌^◌, IfOk, OnOk, IfSome, Option, length};
 ghost use Rattle.std.specs.Option.{option_copied};
 ghost use Rattle.ql_base.specs.Numbering.{with_name};
-ghost use Rattle.ql_line_files.specs.Answers.{IsLineAnswer};
+ghost use Rattle.ql_lines.specs.Answers.{IsLineAnswer};
 ghost use Rattle.ql_typing.specs.Operations.{all_ops};
 ghost use Rattle.ql_exec.specs.declared.effect.Member.{Member};
 ghost use Rattle.ql_effect_lines.specs.declared.setting.Begun.{Begun};
@@ -28,7 +28,7 @@ use crate::rules::ReportRule;
 use crate::setting::Begun;
 use ql_base::{DeclId, EffId, MAX_EFFECTS, Names, NoMemory, ObjId, OpId, RunId, SessId, Word};
 use ql_exec::{Draft, Effect, ExecFault, Execution, Member};
-use ql_line_files::LineFault;
+use ql_lines::LineFault;
 use ql_typing::Typed;
 
 /// The effects that lines say, and the names of their objects, numbered by first occurrence.

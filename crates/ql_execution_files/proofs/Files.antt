@@ -2,12 +2,12 @@
 use Rattle.std.proofs.Common.{◌≡◌, ◌≤◌, inl, inr, ℕ, suc, List, [], ◌∷◌, Result, Ok, Err, length, ap, refl, subst, sym, ◌∙◌}
 use Rattle.ql_exec.specs.declared.effect.Effect.{Effect}
 use Rattle.ql_lang.specs.declared.program.Program.{Program}
-use Rattle.ql_line_files.specs.declared.fault.Broken.{Broken}
-use Rattle.ql_line_files.specs.declared.fault.LineFault.{LineFault}
-use Rattle.ql_line_files.specs.declared.fault.LineFault.TheVariants as line
-use Rattle.ql_line_files.specs.Answers.{IsLineAnswer}
-use Rattle.ql_line_files.specs.Outcomes.{Leads, Outcome}
-use Rattle.ql_line_files.proofs.OneOutcome as law
+use Rattle.ql_lines.specs.declared.fault.Broken.{Broken}
+use Rattle.ql_lines.specs.declared.fault.LineFault.{LineFault}
+use Rattle.ql_lines.specs.declared.fault.LineFault.TheVariants as line
+use Rattle.ql_lines.specs.Answers.{IsLineAnswer}
+use Rattle.ql_lines.specs.Outcomes.{Leads, Outcome}
+use Rattle.ql_lines.proofs.OneOutcome as law
 use Rattle.ql_lines.specs.Fields.{fields_of}
 use Rattle.ql_lines.specs.Lines.{Ahead, Numbered}
 use Rattle.ql_effect_lines.specs.declared.effect_line.EffectLine.{EffectLine}

@@ -1,1 +1,13 @@
 pub mod Files
+pub mod Names
+pub mod Each
+pub mod OneType
+pub mod EffectLists
+pub mod Opening
+pub mod Lawful
+pub mod InTurn
+pub mod Saying
+pub mod Reached
+pub mod Trees
+pub mod Breaking
+pub mod FaultLaws

@@ -3,10 +3,10 @@ use Rattle.std.specs.Prelude.{◌≡◌, ◌⊎◌, ℕ, suc, List, [], ◌∷�
 use Rattle.ql_lines.specs.Fields.{fields_of, Fields}
 use Rattle.ql_lines.specs.Lines.{Ahead, Numbered}
 use Rattle.ql_lang.specs.declared.program.Program.{Program}
-use Rattle.ql_line_files.specs.declared.fault.Broken.{Broken}
-use Rattle.ql_line_files.specs.declared.fault.FileFault.{FileFault}
-use Rattle.ql_line_files.specs.declared.fault.FileFault.TheVariants as file
-use Rattle.ql_line_files.specs.Outcomes as outcomes
+use Rattle.ql_lines.specs.declared.fault.Broken.{Broken}
+use Rattle.ql_lines.specs.declared.fault.FileFault.{FileFault}
+use Rattle.ql_lines.specs.declared.fault.FileFault.TheVariants as file
+use Rattle.ql_lines.specs.Outcomes as outcomes
 use Rattle.ql_exec.specs.declared.effect.Effect.{Effect}
 use Rattle.ql_effect_lines.specs.declared.effect_line.EffectLine.{EffectLine}
 use Rattle.ql_effect_lines.specs.declared.rules.ReportRule.{ReportRule}

@@ -1,2 +1,5 @@
 pub mod ExecutionFile
 pub mod OneLine
+pub mod Grammar
+pub mod Readings
+pub mod FirstFaults

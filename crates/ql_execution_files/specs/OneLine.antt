@@ -3,7 +3,7 @@ use Rattle.std.proofs.Common.{◌≡◌, inl, inr, ℕ, suc, ◌<◌, List, [], 
 use Rattle.std.proofs.lemmas.List.Elements.{All-nil}
 use Rattle.ql_exec.specs.declared.effect.Effect.{Effect}
 use Rattle.ql_lang.specs.declared.program.Program.{Program}
-use Rattle.ql_line_files.specs.declared.fault.Broken.{Broken}
+use Rattle.ql_lines.specs.declared.fault.Broken.{Broken}
 use Rattle.ql_lines.specs.Fields.{Fields, fields_of}
 use Rattle.ql_typing.specs.Operations.{all_ops}
 use Rattle.ql_effect_lines.specs.declared.effect_line.EffectLine.{EffectLine}

@@ -1,6 +1,6 @@
 ghost use Rattle.std.specs.Prelude.{◌≡◌, ◌∷◌, ◌↔◌, ◌<◌, ◌+◌, ◌^◌, [], length, IsTrue, Ok};
 ghost use Rattle.ql_lang.specs.declared.program.Program.{Program};
-ghost use Rattle.ql_line_files.specs.Answers.{IsLineAnswer};
+ghost use Rattle.ql_lines.specs.Answers.{IsLineAnswer};
 ghost use Rattle.ql_lines.specs.Fields.{fields_of};
 ghost use Rattle.ql_effect_lines.specs.Effects.{IsSound};
 ghost use Rattle.ql_execution_files.specs.declared.format.ExecutionReading.TheVariants.{Unbegun, WithEffects};
@@ -10,8 +10,7 @@ ghost use Rattle.ql_execution_files.specs.OneLine.{closes_one, closes_some, give
 use ql_base::Names;
 use ql_effect_lines::{EffectLine, EffectsRead, ReportRule, read_line};
 use ql_exec::Execution;
-use ql_line_files::{Broken, FileFault, LineFault, LineFormat};
-use ql_lines::{after_word, first_field};
+use ql_lines::{Broken, FileFault, LineFault, LineFormat, after_word, first_field};
 use ql_typing::Typed;
 use std::alloc::Global;
 

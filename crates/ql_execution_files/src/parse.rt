@@ -6,7 +6,7 @@ ghost use Rattle.ql_execution_files.specs.ExecutionFile.{IsExecutionFile, IsRefu
 use crate::format::Format;
 use crate::report_fault::{ReportFault, fault_of};
 use ql_exec::Execution;
-use ql_line_files::read_file;
+use ql_lines::read_file;
 use ql_typing::Typed;
 use std::alloc::Global;
 

@@ -2,7 +2,7 @@ ghost use Rattle.std.specs.Prelude.{◌≡◌};
 ghost use Rattle.ql_execution_files.specs.ExecutionFile.{fault_of};
 
 use ql_effect_lines::ReportRule;
-use ql_line_files::{Broken, FileFault};
+use ql_lines::{Broken, FileFault};
 
 /// Why a text isn't an execution file of a program, with the line of the first fault, counted from 1.
 /// If a file ends too early, that is the line after its last one. Of the faults of one line, the first

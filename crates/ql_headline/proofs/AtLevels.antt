@@ -24,10 +24,10 @@ use Rattle.ql_machine.specs.declared.event.Event.{Event}
 use Rattle.ql_machine.specs.declared.reply.Reply.{Reply}
 use Rattle.ql_machine.specs.State.{Machine}
 use Rattle.ql_machine.specs.Runs.{IsRun}
-use Rattle.ql_machine_laws.specs.Promised.{IsUnderName}
-use Rattle.ql_machine_laws.proofs.Formulas.{level_holds, txn_level_holds}
-use Rattle.ql_machine_laws.proofs.Growth.{effects-pass}
-use Rattle.ql_machine_laws.proofs.Runs.{kept}
+use Rattle.ql_machine.specs.Promised.{IsUnderName}
+use Rattle.ql_machine.proofs.Formulas.{level_holds, txn_level_holds}
+use Rattle.ql_machine.proofs.Growth.{effects-pass}
+use Rattle.ql_machine.proofs.Runs.{kept}
 use Rattle.ql_headline.specs.Stores.{IsScheduleFor, is_of_type, promises_of, rules_of}
 
 -- ---- goals by their numbers

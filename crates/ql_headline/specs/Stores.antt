@@ -11,7 +11,7 @@ use Rattle.ql_typing.specs.Operations.{op_kinds, uses_op}
 use Rattle.ql_eval.specs.Folds.{answered_of}
 use Rattle.ql_machine.specs.declared.event.Event.{Event}
 use Rattle.ql_machine.specs.Rules.{Promises, Rules}
-use Rattle.ql_machine_laws.specs.Promised.{asks}
+use Rattle.ql_machine.specs.Promised.{asks}
 
 -- a level for each operation and each declared transaction; the highest one where none is listed
 abbrev pub promises_of : LevelLists → Promises

@@ -15,7 +15,7 @@ ghost use Rattle.ql_machine.specs.declared.event.Event.{Event};
 ghost use Rattle.ql_machine.specs.declared.reply.Reply.{Reply};
 ghost use Rattle.ql_machine.specs.State.{Machine};
 ghost use Rattle.ql_machine.specs.Runs.{IsRun};
-ghost use Rattle.ql_machine_laws.specs.Promised.{IsUnderName};
+ghost use Rattle.ql_machine.specs.Promised.{IsUnderName};
 ghost use Rattle.ql_headline.specs.Stores.{IsScheduleFor, rules_of};
 
 /// The law of contracts in runs. For every schedule whose calls are of operations of their objects' types, the

@@ -2,10 +2,10 @@
 use Rattle.std.proofs.Common.{◌≡◌, ℕ, ◌<◌, true, false, List, length, get_or, sym, subst, arith}
 use Rattle.ql_base.specs.IdLists.{has_id, union_of}
 use Rattle.ql_exec.specs.declared.effect.Effect.{Effect}
-use Rattle.ql_needs.specs.Closed.{Has}
-use Rattle.ql_needs.specs.Needs.{AreWhole, IsPackage}
-use Rattle.ql_needs.proofs.Members.{has_id-index, index-has}
-use Rattle.ql_needs.proofs.Packages.{package-member, package-in, package-out}
+use Rattle.ql_holder.specs.Closed.{Has}
+use Rattle.ql_holder.specs.Needs.{AreWhole, IsPackage}
+use Rattle.ql_holder.proofs.Members.{has_id-index, index-has}
+use Rattle.ql_holder.proofs.Packages.{package-member, package-in, package-out}
 use Rattle.ql_holder.specs.Arrivals.{IsNew}
 
 pub first-has : (x : List Effect) (pack : List ℕ) → IsPackage x pack → (0 < length pack) × Has pack (get_or pack 0 0)

@@ -1,1 +1,4 @@
 pub mod Arrivals
+pub mod Closed
+pub mod Missing
+pub mod Needs

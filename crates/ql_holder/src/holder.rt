@@ -2,7 +2,7 @@ ghost use Rattle.std.specs.Prelude.{◌≡◌, ◌↔◌, ◌<◌, ◌≤◌, �
 ghost use Rattle.ql_base.specs.IdLists.{IsAscending, has_id};
 ghost use Rattle.ql_exec.specs.declared.effect.Effect.{Effect};
 ghost use Rattle.ql_exec.specs.Execution.{IsExecution};
-ghost use Rattle.ql_needs.specs.Needs.{AreWhole, IsPackage, JoinsNone};
+ghost use Rattle.ql_holder.specs.Needs.{AreWhole, IsPackage, JoinsNone};
 ghost use Rattle.ql_holder.specs.Arrivals.{Applied, IsArrival, ChangesNothing};
 
 use crate::arrival::Arrival;

@@ -4,9 +4,9 @@ use Rattle.ql_exec.specs.declared.effect.Effect.{Effect}
 use Rattle.ql_lang.specs.Formulas.{Resolved}
 use Rattle.ql_lang.specs.Trees.{Sentence}
 use Rattle.ql_lang.specs.declared.contract.Var.{Var}
-use Rattle.ql_line_files.specs.Answers.{IsLineAnswer}
-use Rattle.ql_line_files.specs.declared.fault.LineFault.{LineFault}
-use Rattle.ql_line_files.specs.declared.fault.LineFault.TheVariants.{Breaks, NoMemory}
+use Rattle.ql_lines.specs.Answers.{IsLineAnswer}
+use Rattle.ql_lines.specs.declared.fault.LineFault.{LineFault}
+use Rattle.ql_lines.specs.declared.fault.LineFault.TheVariants.{Breaks, NoMemory}
 use Rattle.ql_lines.specs.Fields.{Fields}
 use Rattle.ql_typing.specs.Resolved.{ops_met, resolved_in}
 use Rattle.ql_typing.specs.declared.fault.TypeFault.{TypeFault}

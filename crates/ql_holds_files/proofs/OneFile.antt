@@ -1,7 +1,7 @@
 -- a file asks one thing or has one first fault, and never both or neither
 use Rattle.std.proofs.Common.{◌≡◌, Result}
-use Rattle.ql_line_files.specs.declared.fault.Broken.{Broken}
-use Rattle.ql_line_files.proofs.OneOutcome as law
+use Rattle.ql_lines.specs.declared.fault.Broken.{Broken}
+use Rattle.ql_lines.proofs.OneOutcome as law
 use Rattle.ql_lines.specs.Lines.{Ahead}
 use Rattle.ql_holds_files.specs.declared.asked.Asked.{Asked}
 use Rattle.ql_holds_files.specs.declared.reading.Stage.TheVariants.{Unbegun}

@@ -1,8 +1,8 @@
 -- what a file asks keeps the limits
 use Rattle.std.proofs.Common.{◌≡◌, ℕ, ◌≤◌, Bool, true, false, List, [], ◌∷◌, Result, Ok, Err, length, sym, subst}
 use Rattle.std.specs.Prelude.{if◌then◌else◌}
-use Rattle.ql_line_files.specs.declared.fault.Broken.{Broken}
-use Rattle.ql_line_files.specs.Outcomes.{Leads}
+use Rattle.ql_lines.specs.declared.fault.Broken.{Broken}
+use Rattle.ql_lines.specs.Outcomes.{Leads}
 use Rattle.ql_lines.specs.Lines.{Ahead, Numbered}
 use Rattle.ql_holds_files.specs.declared.asked.Asked.{Asked}
 use Rattle.ql_holds_files.specs.declared.reading.Stage.{Stage}

@@ -2,7 +2,7 @@
 use Rattle.std.specs.Prelude.{◌≡◌, Err}
 use Rattle.ql_lang.specs.Formulas.{resolved_of}
 use Rattle.ql_lines.specs.Lines.{Ahead}
-use Rattle.ql_line_files.specs.declared.fault.Broken.{Broken}
+use Rattle.ql_lines.specs.declared.fault.Broken.{Broken}
 use Rattle.ql_holds_files.specs.declared.asked.Asked.{Asked}
 use Rattle.ql_holds_files.specs.declared.holding.Holding.{Holding}
 use Rattle.ql_holds_files.specs.declared.holds_fault.HoldsFault.{HoldsFault}

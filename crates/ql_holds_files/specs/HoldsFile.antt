@@ -2,9 +2,9 @@
 use Rattle.std.specs.Prelude.{◌≡◌, ◌⊎◌, ℕ, suc, Bool, true, false, ◌&&◌, nat_le, [], map, length, Option, None, Some, Result, Ok, Err, if◌then◌else◌}
 use Rattle.ql_lines.specs.Fields.{fields_of, Fields, IsId}
 use Rattle.ql_lines.specs.Lines.{Ahead, Numbered}
-use Rattle.ql_line_files.specs.declared.fault.Broken.{Broken}
-use Rattle.ql_line_files.specs.declared.fault.LineFault.{LineFault}
-use Rattle.ql_line_files.specs.Outcomes.{Outcome}
+use Rattle.ql_lines.specs.declared.fault.Broken.{Broken}
+use Rattle.ql_lines.specs.declared.fault.LineFault.{LineFault}
+use Rattle.ql_lines.specs.Outcomes.{Outcome}
 use Rattle.ql_lang.specs.Trees.{Sentence}
 use Rattle.ql_typing.specs.Resolved.{ops_met, resolved_in}
 use Rattle.ql_holds_files.specs.declared.asked.Asked as asked

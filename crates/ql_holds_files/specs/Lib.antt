@@ -8,3 +8,7 @@ pub mod OneLine
 pub mod Limits
 pub mod NamedOperations
 pub mod Holdings
+pub mod Grammar
+pub mod TreeRules
+pub mod Questions
+pub mod FirstFaults

@@ -4,8 +4,8 @@ use Rattle.std.proofs.lemmas.Fmt.{decimal_injective}
 use Rattle.std.proofs.lemmas.List.{append_cancel_left}
 use Rattle.std.specs.Coded.{Coded-set, coded_result}
 use Rattle.ql_lang.specs.Trees.{Sentence}
-use Rattle.ql_line_files.specs.declared.fault.Broken.{Broken}
-use Rattle.ql_line_files.proofs.WrittenNumbers.{same_numbers}
+use Rattle.ql_lines.specs.declared.fault.Broken.{Broken}
+use Rattle.ql_lines.proofs.WrittenNumbers.{same_numbers}
 use Rattle.ql_lines.proofs.Conses.{heads, tails}
 use Rattle.ql_lines.specs.Fields.{FirstField, Fields, fields_of}
 use Rattle.ql_lines.specs.Lines.{Numbered}

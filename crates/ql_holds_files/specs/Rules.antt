@@ -1,8 +1,8 @@
 -- The rules of holds files, and their faults.
 use Rattle.std.specs.Prelude.{ℕ, Option, None, Some, Result, Ok, Err}
-use Rattle.ql_line_files.specs.declared.fault.FileFault.{FileFault}
-use Rattle.ql_line_files.specs.declared.fault.FileFault.TheVariants as file
-use Rattle.ql_line_files.specs.declared.fault.LineFault.{LineFault}
+use Rattle.ql_lines.specs.declared.fault.FileFault.{FileFault}
+use Rattle.ql_lines.specs.declared.fault.FileFault.TheVariants as file
+use Rattle.ql_lines.specs.declared.fault.LineFault.{LineFault}
 use Rattle.ql_holds_files.specs.declared.holds_fault.HoldsFault.{HoldsFault}
 use Rattle.ql_holds_files.specs.declared.holds_fault.HoldsFault.TheVariants as fault
 use Rattle.ql_holds_files.specs.declared.rules.HoldsRule.{HoldsRule}

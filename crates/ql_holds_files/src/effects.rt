@@ -4,7 +4,7 @@ ghost use Rattle.ql_base.specs.Numbering.{with_name};
 ghost use Rattle.ql_base.specs.declared.limits.TheConstants.{MAX_EFFECTS};
 ghost use Rattle.ql_exec.specs.Execution.{effect_of};
 ghost use Rattle.ql_exec.specs.declared.effect.Member.TheVariants.{Alone};
-ghost use Rattle.ql_line_files.specs.Answers.{IsLineAnswer};
+ghost use Rattle.ql_lines.specs.Answers.{IsLineAnswer};
 ghost use Rattle.ql_holds_files.specs.EffectLine.{draft_rule, effect_rule, number_among, plain_draft, with_named_effect};
 ghost use Rattle.ql_holds_files.specs.NamedOperations.{NamesFew};
 ghost use Rattle.ql_holds_files.specs.Rules.{unless_broken, with_state};
@@ -13,7 +13,7 @@ use crate::effect_line::EffectLine;
 use crate::rules::HoldsRule;
 use ql_base::{IdSet, MAX_EFFECTS, Names, NoMemory, ObjId, OpId, SessId, Word};
 use ql_exec::{Draft, Effect, ExecFault, Execution, Member, Payload};
-use ql_line_files::LineFault;
+use ql_lines::LineFault;
 use ql_value::{Value, Values};
 use std::alloc::Global;
 

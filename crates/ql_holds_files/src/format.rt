@@ -3,7 +3,7 @@ ghost use Rattle.ql_holds_files.specs.Uniqueness.{OneContract};
 use crate::asked::Asked;
 use crate::reading::{Stage, finish, take};
 use crate::rules::HoldsRule;
-use ql_line_files::{FileFault, LineFault, LineFormat};
+use ql_lines::{FileFault, LineFault, LineFormat};
 use std::alloc::Global;
 
 /// The format of holds files.

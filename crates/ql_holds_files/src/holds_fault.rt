@@ -2,7 +2,7 @@ ghost use Rattle.std.specs.Prelude.{◌≡◌};
 ghost use Rattle.ql_holds_files.specs.Rules.{fault_of};
 
 use crate::rules::HoldsRule;
-use ql_line_files::{Broken, FileFault};
+use ql_lines::{Broken, FileFault};
 
 /// Why a text is no holds file, with the line number of its first fault, counted from 1. A file that
 /// ends too early has its fault in the line after the last. Of the faults of one line the first in

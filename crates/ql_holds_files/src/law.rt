@@ -1,6 +1,6 @@
 ghost use Rattle.std.specs.Prelude.{◌≡◌, Result};
 ghost use Rattle.ql_lines.specs.Lines.{Ahead};
-ghost use Rattle.ql_line_files.specs.declared.fault.Broken.{Broken};
+ghost use Rattle.ql_lines.specs.declared.fault.Broken.{Broken};
 ghost use Rattle.ql_holds_files.specs.declared.asked.Asked.{Asked};
 ghost use Rattle.ql_holds_files.specs.declared.rules.HoldsRule.{HoldsRule};
 ghost use Rattle.ql_holds_files.specs.HoldsFile.{HoldsOutcome};

@@ -7,7 +7,7 @@ use crate::asked::holding;
 use crate::format::Format;
 use crate::holding::Holding;
 use crate::holds_fault::{HoldsFault, fault_of};
-use ql_line_files::read_file;
+use ql_lines::read_file;
 use std::alloc::Global;
 
 /// Reads the question of a holds file of fewer than 2^32 bytes, or reports its first fault.

@@ -5,9 +5,9 @@ use Rattle.ql_base.specs.IdLists.{has_id}
 use Rattle.ql_base.proofs.IdLemmas.{get_or-above, get_or-rises, has_id-there}
 use Rattle.ql_exec.specs.declared.effect.Effect.{Effect}
 use Rattle.ql_exec.specs.Relations.{sametxn}
-use Rattle.ql_needs.specs.Closed.{Has}
-use Rattle.ql_needs.specs.Needs.{IsPackage}
-use Rattle.ql_needs.proofs.Packages.{package-each, sametxn-along, sametxn-there}
+use Rattle.ql_holder.specs.Closed.{Has}
+use Rattle.ql_holder.specs.Needs.{IsPackage}
+use Rattle.ql_holder.proofs.Packages.{package-each, sametxn-along, sametxn-there}
 use Rattle.ql_journal.specs.Records.{IsLawful}
 use Rattle.ql_journal.specs.Within.{AgreesUpTo, AreWithin}
 

@@ -9,9 +9,9 @@ use Rattle.ql_exec.specs.declared.effect.Effect.{Effect}
 use Rattle.ql_holder.specs.Arrivals.{IsArrival}
 use Rattle.ql_holder.specs.declared.arrival.Arrival.{Arrival}
 use Rattle.ql_holder.specs.declared.arrival.Arrival.TheVariants.{Again, Waits, Applies}
-use Rattle.ql_needs.specs.Closed.{Has}
-use Rattle.ql_needs.specs.Needs.{IsPackage}
-use Rattle.ql_needs.proofs.Packages.{package-member, sametxn-there}
+use Rattle.ql_holder.specs.Closed.{Has}
+use Rattle.ql_holder.specs.Needs.{IsPackage}
+use Rattle.ql_holder.proofs.Packages.{package-member, sametxn-there}
 use Rattle.ql_journal.specs.Records.{HasRecords, IsLawful, body, records_of}
 use Rattle.ql_journal.specs.Images.{IsAppended}
 use Rattle.ql_journal.specs.Stations.{Agrees, IsForetold, end_after, end_of, records_after}

@@ -6,7 +6,7 @@ use Rattle.ql_exec.specs.declared.effect.Effect.{Effect}
 use Rattle.ql_holder.specs.Arrivals.{IsArrival}
 use Rattle.ql_holder.specs.declared.arrival.Arrival.{Arrival}
 use Rattle.ql_holder.specs.declared.arrival.Arrival.TheVariants.{Again, Waits, Applies}
-use Rattle.ql_needs.proofs.IdSets.{has_id-union}
+use Rattle.ql_holder.proofs.IdSets.{has_id-union}
 use Rattle.ql_journal.specs.Records.{IsLawful, in_records}
 use Rattle.ql_journal.specs.Ends.{AreKnown, IsKnown}
 

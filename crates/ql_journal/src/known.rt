@@ -1,12 +1,12 @@
 ghost use Rattle.std.specs.Prelude.{◌≡◌, ◌↔◌, ◌≤◌, true, length};
-ghost use Rattle.ql_needs.specs.Needs.{IsPackage};
+ghost use Rattle.ql_holder.specs.Needs.{IsPackage};
 ghost use Rattle.ql_journal.specs.Ends.{IsKnown};
 ghost use Rattle.ql_journal.specs.Within.{AgreesUpTo, AreWithin};
 ghost use Rattle.ql_journal.specs.Records.{IsLawful};
 
 use ql_base::IdSet;
 use ql_exec::Execution;
-use ql_needs::is_same_txn;
+use ql_holder::is_same_txn;
 
 /// Whether the ids are a package of committed effects.
 pub(crate) fn is_known(x: &Execution, committed: &IdSet, ids: &IdSet) -> bool

@@ -6,7 +6,7 @@ ghost use Rattle.ql_disk.specs.Moments.{LeavesOnly};
 ghost use Rattle.ql_exec.specs.declared.effect.Effect.{Effect};
 ghost use Rattle.ql_holder.specs.Arrivals.{IsArrival};
 ghost use Rattle.ql_holder.specs.declared.arrival.Arrival.TheVariants.{Again};
-ghost use Rattle.ql_needs.specs.Needs.{IsPackage};
+ghost use Rattle.ql_holder.specs.Needs.{IsPackage};
 ghost use Rattle.ql_ports.specs.Faults.{Rose};
 ghost use Rattle.ql_journal.specs.declared.why.StationWhy.TheVariants as why;
 ghost use Rattle.ql_journal.specs.Ends.{AreKnown, IsDamaged, IsStranger};

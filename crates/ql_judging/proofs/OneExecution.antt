@@ -4,11 +4,11 @@ use Rattle.ql_effect_lines.specs.declared.effect_line.EffectLine.{EffectLine}
 use Rattle.ql_exec.specs.declared.effect.Effect.{Effect}
 use Rattle.ql_execution_files.specs.declared.report_fault.ReportFault.{ReportFault}
 use Rattle.ql_execution_files.proofs.Files.{apart}
-use Rattle.ql_execution_grammar.specs.FirstFaults.{FirstTextFault}
-use Rattle.ql_execution_grammar.specs.Readings.{SaysExecution}
-use Rattle.ql_execution_grammar.proofs.FaultLaws.{fault_outcome}
-use Rattle.ql_execution_grammar.proofs.Saying.{one_said}
-use Rattle.ql_execution_grammar.proofs.Trees.{one_tree, read}
+use Rattle.ql_execution_files.specs.FirstFaults.{FirstTextFault}
+use Rattle.ql_execution_files.specs.Readings.{SaysExecution}
+use Rattle.ql_execution_files.proofs.FaultLaws.{fault_outcome}
+use Rattle.ql_execution_files.proofs.Saying.{one_said}
+use Rattle.ql_execution_files.proofs.Trees.{one_tree, read}
 use Rattle.ql_lang.specs.declared.program.Program.{Program}
 use Rattle.ql_lines.specs.Lines.{ahead_from, texts_of}
 use Rattle.ql_judging.specs.Verify.{ReportsExecution}

@@ -11,7 +11,7 @@ use Rattle.ql_exec.specs.Execution.{with_stamp}
 use Rattle.ql_effect_lines.specs.Effects.{draft_of_line, known_of, member_of_line}
 use Rattle.ql_effect_lines.specs.declared.effect_line.EffectLine.{EffectLine}
 use Rattle.ql_effect_lines.specs.declared.setting.Begun.{Begun}
-use Rattle.ql_execution_grammar.specs.Readings.{effect_said, objects_in}
+use Rattle.ql_execution_files.specs.Readings.{effect_said, objects_in}
 use Rattle.ql_lang.specs.declared.operation.OpDecl.{OpDecl}
 use Rattle.ql_lang.specs.declared.program.Program.{Program}
 use Rattle.ql_lang.specs.declared.program.TxnDecl.{TxnDecl}

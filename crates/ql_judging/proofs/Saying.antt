@@ -5,7 +5,7 @@ use Rattle.ql_exec.specs.declared.effect.Effect.{Effect}
 use Rattle.ql_execution_files.specs.ExecutionFile.{FirstExecutionFault, IsRefusal}
 use Rattle.ql_execution_files.specs.declared.report_fault.ReportFault.{ReportFault}
 use Rattle.ql_execution_files.specs.declared.report_fault.ReportFault.TheVariants.{Unexpected, Unknown, Mixed, Stamp, NotForward, OtherObject, SplitTxn, TooMany, NoMemory}
-use Rattle.ql_execution_grammar.proofs.FaultLaws as grammar
+use Rattle.ql_execution_files.proofs.FaultLaws as grammar
 use Rattle.ql_lang.specs.declared.program.Program.{Program}
 use Rattle.ql_lang.specs.Programs.{Source, source_of}
 use Rattle.ql_lines.specs.Lines.{Ahead, ahead_from}

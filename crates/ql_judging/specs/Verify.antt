@@ -7,9 +7,9 @@ use Rattle.ql_exec.specs.declared.effect.Effect.{Effect}
 use Rattle.ql_exec.specs.Effects.{effect_at}
 use Rattle.ql_execution_files.specs.declared.report_fault.ReportFault.{ReportFault}
 use Rattle.ql_execution_files.specs.declared.report_fault.ReportFault.TheVariants.{Unexpected, Unknown, Mixed, Stamp, NotForward, OtherObject, SplitTxn, TooMany, NoMemory}
-use Rattle.ql_execution_grammar.specs.FirstFaults.{FirstTextFault}
-use Rattle.ql_execution_grammar.specs.Grammar.{IsExecutionText}
-use Rattle.ql_execution_grammar.specs.Readings.{SaysExecution}
+use Rattle.ql_execution_files.specs.FirstFaults.{FirstTextFault}
+use Rattle.ql_execution_files.specs.Grammar.{IsExecutionText}
+use Rattle.ql_execution_files.specs.Readings.{SaysExecution}
 use Rattle.ql_lang.specs.declared.contract.Var.{Var}
 use Rattle.ql_lang.specs.declared.program.Program.{Program}
 use Rattle.ql_lines.specs.Lines.{ahead_from, texts_of}

@@ -7,3 +7,6 @@ mod FirstBytes
 pub mod FieldLaws
 pub mod LineLaws
 pub mod TextLaws
+pub mod OneOutcome
+pub mod WrittenNumbers
+mod ShortLines

@@ -8,3 +8,6 @@ pub mod Calls
 pub mod Deliveries
 pub mod Steps
 pub mod Runs
+pub mod Kept
+pub mod Promised
+pub mod Example

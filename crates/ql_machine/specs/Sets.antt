@@ -1,7 +1,7 @@
 -- Sets of ids, as predicates and as the ascending lists of their members.
 use Rattle.std.specs.Prelude.{ℕ, ◌≤◌, Bool, true, ◌&&◌, List, [], ◌∷◌}
 use Rattle.ql_base.specs.IdLists.{IsAscending, has_id}
-use Rattle.ql_needs.specs.Closed.{Has}
+use Rattle.ql_holder.specs.Closed.{Has}
 
 -- a list has each of these ids
 abbrev pub has_all : List ℕ → List ℕ → Bool

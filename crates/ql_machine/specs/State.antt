@@ -9,7 +9,7 @@ use Rattle.ql_exec.specs.declared.effect.Effect.{Effect}
 use Rattle.ql_exec.specs.declared.effect.Member.{Member}
 use Rattle.ql_exec.specs.declared.effect.Member.TheVariants.{Alone, Inside}
 use Rattle.ql_exec.specs.Effects.{effect_at, one}
-use Rattle.ql_needs.specs.Needs.{NeedsWhen}
+use Rattle.ql_holder.specs.Needs.{NeedsWhen}
 use Rattle.ql_machine.specs.declared.message.Message.{Message}
 use Rattle.ql_machine.specs.declared.open_txn.OpenTxn.{OpenTxn}
 

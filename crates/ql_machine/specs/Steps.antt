@@ -15,7 +15,7 @@ use Rattle.ql_exec.specs.Effects.{effect_at}
 use Rattle.ql_exec.specs.Relations.{inside, sametxn}
 use Rattle.ql_levels.specs.declared.level.Level.{Level}
 use Rattle.ql_levels.specs.declared.level.Level.TheVariants.{Strong}
-use Rattle.ql_needs.specs.Closed.{Reaches}
+use Rattle.ql_holder.specs.Closed.{Reaches}
 use Rattle.ql_machine.specs.declared.event.Event.{Event}
 use Rattle.ql_machine.specs.declared.event.Event.TheVariants as event
 use Rattle.ql_machine.specs.declared.event.Event.TheVariants.{Begin, Commit, Deliver, Heal, Join, Lose, Partition, Repeat, Resend}

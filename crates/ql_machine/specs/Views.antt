@@ -9,7 +9,7 @@ use Rattle.ql_levels.specs.declared.level.Level.{Level}
 use Rattle.ql_levels.specs.declared.level.Level.TheVariants.{Eventual, Causal, Wide, Strong}
 use Rattle.ql_levels.specs.declared.level.TxnLevel.{TxnLevel}
 use Rattle.ql_levels.specs.declared.level.TxnLevel.TheVariants.{Rc, Mav, Rr}
-use Rattle.ql_needs.specs.Closed.{Closed, Has}
+use Rattle.ql_holder.specs.Closed.{Closed, Has}
 use Rattle.ql_machine.specs.declared.open_txn.OpenTxn.{OpenTxn}
 use Rattle.ql_machine.specs.State.{Machine, NeedsNow, received_at, open_of}
 use Rattle.ql_machine.specs.Rules.{Rules, Call}

@@ -3,3 +3,6 @@ pub mod Readings
 pub mod Precedences
 pub mod Parsing
 pub mod Junctions
+pub mod Printed
+pub mod PrintedPrograms
+pub mod Prefixes

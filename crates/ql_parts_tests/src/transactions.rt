@@ -2,7 +2,7 @@ ghost use Rattle.std.specs.Prelude.{◌≡◌, ◌≤◌, Some, length, IfOk};
 ghost use Rattle.ql_machine.specs.declared.open_txn.OpenTxn.{OpenTxn};
 ghost use Rattle.ql_machine.specs.State.{open_of};
 ghost use Rattle.ql_shim.specs.Transactions.{open_txns};
-ghost use Rattle.ql_needs.specs.Needs.{AreThere, AreWhole, IsPackage};
+ghost use Rattle.ql_holder.specs.Needs.{AreThere, AreWhole, IsPackage};
 
 use ql_base::{DeclId, EffId, IdSet, NoMemory, ObjId, RunId, SessId};
 use ql_exec::{Execution, Member};

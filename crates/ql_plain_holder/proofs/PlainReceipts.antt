@@ -5,14 +5,14 @@ use Rattle.ql_base.specs.IdLists.{IsAscending, has_id, union_of}
 use Rattle.ql_base.proofs.IdLemmas.{get_or-rises}
 use Rattle.ql_exec.specs.declared.effect.Effect.{Effect}
 use Rattle.ql_exec.specs.Relations.{sametxn}
-use Rattle.ql_needs.specs.Closed.{Has}
-use Rattle.ql_needs.specs.Missing.{IsFirstMissing}
-use Rattle.ql_needs.specs.Needs.{Needs, AreWhole, IsPackage, IsNeeded}
-use Rattle.ql_needs.proofs.ClosedLaws.{closed-member, closed-from, reached-within}
-use Rattle.ql_needs.proofs.Packages.{package-member, package-reach, package-in, package-out, whole-union, sametxn-there, sametxn-itself}
-use Rattle.ql_needs.proofs.Members.{has_id-index, index-has, has_id-take}
+use Rattle.ql_holder.specs.Closed.{Has}
+use Rattle.ql_holder.specs.Missing.{IsFirstMissing}
+use Rattle.ql_holder.specs.Needs.{Needs, AreWhole, IsPackage, IsNeeded}
+use Rattle.ql_holder.proofs.ClosedLaws.{closed-member, closed-from, reached-within}
+use Rattle.ql_holder.proofs.Packages.{package-member, package-reach, package-in, package-out, whole-union, sametxn-there, sametxn-itself}
+use Rattle.ql_holder.proofs.Members.{has_id-index, index-has, has_id-take}
 use Rattle.ql_holder.specs.Arrivals.{Applied, IsLeastMissing, IsGain, IsNew}
-use Rattle.ql_reach.specs.Reach.{InEither, IsReach}
+use Rattle.ql_ranges.specs.Reach.{InEither, IsReach}
 use Rattle.ql_plain_holder.specs.Plain.{FitsPlain}
 
 -- ---- a transaction's effects

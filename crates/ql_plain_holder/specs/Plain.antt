@@ -2,8 +2,8 @@
 use Rattle.std.specs.Prelude.{◌↔◌, ℕ, List}
 use Rattle.ql_base.specs.IdLists.{IsAscending}
 use Rattle.ql_exec.specs.declared.effect.Effect.{Effect}
-use Rattle.ql_needs.specs.Closed.{Has}
-use Rattle.ql_needs.specs.Needs.{AreWhole}
+use Rattle.ql_holder.specs.Closed.{Has}
+use Rattle.ql_holder.specs.Needs.{AreWhole}
 use Rattle.ql_holder.specs.Arrivals.{Applied}
 
 pub record FitsPlain (received applied : List ℕ) (x : List Effect) : Type 0 where

@@ -2,9 +2,9 @@
 use Rattle.std.specs.Prelude.{◌++◌, ℕ, List}
 use Rattle.ql_exec.specs.declared.effect.Effect.{Effect}
 use Rattle.ql_exec.specs.Execution.{IsExecution}
-use Rattle.ql_needs.specs.Needs.{JoinsNone}
-use Rattle.ql_needs.proofs.NeedsLaws.{closed-grown}
-use Rattle.ql_needs.proofs.Packages.{whole-grown}
+use Rattle.ql_holder.specs.Needs.{JoinsNone}
+use Rattle.ql_holder.proofs.NeedsLaws.{closed-grown}
+use Rattle.ql_holder.proofs.Packages.{whole-grown}
 use Rattle.ql_plain_holder.specs.Plain.{FitsPlain}
 
 pub fits-more : (received applied : List ℕ) (x more : List Effect) → IsExecution (x ++ more) → FitsPlain received applied x → JoinsNone x more received → FitsPlain received applied (x ++ more)

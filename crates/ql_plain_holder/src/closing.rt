@@ -1,16 +1,15 @@
 ghost use Rattle.std.specs.Prelude.{◌≡◌, ◌⊎◌, ◌↔◌, ◌≤◌, ◌&&◌, ◌||◌, not, nat_eq, ℕ, true, length, IfOk, OnOk};
 ghost use Rattle.ql_base.specs.IdLists.{IsAscending, has_id};
 ghost use Rattle.ql_exec.specs.Relations.{sametxn};
-ghost use Rattle.ql_needs.specs.Closed.{Has};
-ghost use Rattle.ql_needs.specs.Needs.{AreWhole, IsPackage};
+ghost use Rattle.ql_holder.specs.Closed.{Has};
+ghost use Rattle.ql_holder.specs.Needs.{AreWhole, IsPackage};
 ghost use Rattle.ql_holder.specs.Arrivals.{Applied};
-ghost use Rattle.ql_needs.specs.Missing.{IsFirstMissing};
+ghost use Rattle.ql_holder.specs.Missing.{IsFirstMissing};
 
 use ql_base::{IdSet, NoMemory};
 use ql_exec::Execution;
-use ql_needs::is_same_txn;
-use ql_ranges::Ranges;
-use ql_reach::reach;
+use ql_holder::is_same_txn;
+use ql_ranges::{Ranges, reach};
 use std::alloc::Global;
 
 /// Those of some effects for which all that they need, directly or through others, is among these effects.

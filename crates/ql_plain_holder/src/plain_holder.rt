@@ -1,6 +1,6 @@
 ghost use Rattle.std.specs.Prelude.{◌≡◌, ◌<◌, ◌≤◌, ℕ, true, false, length, slice_index, IfOk};
 ghost use Rattle.ql_base.specs.IdLists.{has_id};
-ghost use Rattle.ql_needs.specs.Needs.{IsPackage};
+ghost use Rattle.ql_holder.specs.Needs.{IsPackage};
 ghost use Rattle.ql_holder.specs.Arrivals.{ChangesNothing, IsArrival};
 ghost use Rattle.ql_plain_holder.specs.Plain.{FitsPlain};
 
@@ -8,8 +8,7 @@ use crate::closing::{closed_part, first_missing, without};
 use ql_base::{EffId, IdSet, NoMemory};
 use ql_exec::Execution;
 use ql_holder::{Arrival, Holder};
-use ql_ranges::Ranges;
-use ql_reach::reach;
+use ql_ranges::{Ranges, reach};
 use std::alloc::Global;
 
 /// A holder that keeps a list of what was received and a list of what is applied.

@@ -4,7 +4,7 @@ use Rattle.std.specs.List.{insert, remove}
 use Rattle.std.proofs.lemmas.Bool.{or_cases, or_left, or_right, eq-eqb, eqb-true, cases_order}
 use Rattle.ql_base.specs.IdLists.{has_id, with_id}
 use Rattle.ql_base.proofs.IdLemmas.{IsAscending-with_id}
-use Rattle.ql_needs.proofs.IdSets.{has_id-with, same_ids}
+use Rattle.ql_holder.proofs.IdSets.{has_id-with, same_ids}
 use Rattle.ql_ranges.specs.Ranges.{ids_of, BeginAt, AreApart}
 use Rattle.ql_ranges.specs.Places.{IsOneOf, Adds, IsPlace}
 use Rattle.ql_ranges.specs.declared.ranges.IdRange.{IdRange}

@@ -3,7 +3,7 @@ use Rattle.std.proofs.Common.{◌≡◌, ℕ, suc, ◌+◌, ◌-◌, ◌<◌, �
 use Rattle.std.proofs.lemmas.List.{get_or_default, get_or-drop}
 use Rattle.ql_base.specs.IdLists.{IsAscending, has_id}
 use Rattle.ql_base.proofs.IdLemmas.{get_or-rises}
-use Rattle.ql_needs.proofs.Members.{has_id-index}
+use Rattle.ql_holder.proofs.Members.{has_id-index}
 
 -- the ids of an ascending list are from its first to its last
 pub between-ends : (ids : List ℕ) (a : ℕ) → IsAscending ids → has_id ids a ≡ true → (get_or ids 0 0 ≤ a) × (a ≤ get_or ids (length ids - 1) 0)

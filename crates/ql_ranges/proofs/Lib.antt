@@ -1,3 +1,6 @@
 mod RangeLemmas
 mod Edits
 pub mod Ends
+mod WalkLaws
+mod NeighbourLaws
+mod ReachLaws

@@ -1,2 +1,5 @@
 pub mod Ranges
 pub mod Places
+pub mod Reach
+pub mod Searches
+pub mod Walks

@@ -1,7 +1,7 @@
 ghost use Rattle.std.specs.Prelude.{◌≡◌, ◌↔◌, ◌+◌, ◌<◌, ◌≤◌, ◌&&◌, ◌||◌, ℕ, [], IsTrue, true, false, nat_le, nat_lt, length, slice_index, slice_index_or, Some, None, if◌then◌else◌, IfOk, OnOk, OnErr};
 ghost use Rattle.ql_base.specs.IdLists.{IsAscending, has_id, with_id, union_of};
 ghost use Rattle.ql_ranges.specs.Ranges.{ids_of, AreApart};
-ghost use Rattle.ql_needs.specs.Closed.{Has};
+ghost use Rattle.ql_holder.specs.Closed.{Has};
 ghost use Rattle.ql_ranges.specs.Places.{Adds, IsBetween, IsFree, IsPlace, IsRangeWith};
 ghost use Rattle.ql_ranges.specs.declared.ranges.IdRange.{IdRange};
 

@@ -6,17 +6,17 @@ use Rattle.ql_base.specs.IdLists.{IsAscending, has_id, union_of}
 use Rattle.ql_base.proofs.IdLemmas.{get_or-rises}
 use Rattle.ql_base.specs.declared.ids.EffId.{EffId}
 use Rattle.ql_exec.specs.declared.effect.Effect.{Effect}
-use Rattle.ql_needs.specs.Closed.{Reaches, Has}
-use Rattle.ql_needs.specs.Missing.{IsFirstMissing}
-use Rattle.ql_needs.specs.Needs.{Needs, AreWhole, IsPackage, IsNeeded}
-use Rattle.ql_needs.proofs.ClosedLaws.{closed-member, closed-need, closed-from, closed-larger, reached-along, reached-within}
-use Rattle.ql_needs.proofs.Packages.{package-member, package-each, package-reach, package-in, package-out, whole-union}
-use Rattle.ql_needs.proofs.IdSets.{has_id-union, in_union-left, in_union-right, in_union-cases}
-use Rattle.ql_needs.proofs.Members.{has_id-index, index-has, get_or-front, get_or-end}
+use Rattle.ql_holder.specs.Closed.{Reaches, Has}
+use Rattle.ql_holder.specs.Missing.{IsFirstMissing}
+use Rattle.ql_holder.specs.Needs.{Needs, AreWhole, IsPackage, IsNeeded}
+use Rattle.ql_holder.proofs.ClosedLaws.{closed-member, closed-need, closed-from, closed-larger, reached-along, reached-within}
+use Rattle.ql_holder.proofs.Packages.{package-member, package-each, package-reach, package-in, package-out, whole-union}
+use Rattle.ql_holder.proofs.IdSets.{has_id-union, in_union-left, in_union-right, in_union-cases}
+use Rattle.ql_holder.proofs.Members.{has_id-index, index-has, get_or-front, get_or-end}
 use Rattle.ql_holder.specs.Arrivals.{Applied, IsLeastMissing, IsGain, IsNew}
 use Rattle.ql_ranges.specs.Ranges.{ids_of}
 use Rattle.ql_ranges.specs.declared.ranges.IdRange.{IdRange}
-use Rattle.ql_reach.specs.Reach.{InEither, IsReach}
+use Rattle.ql_ranges.specs.Reach.{InEither, IsReach}
 use Rattle.ql_replica.specs.declared.waiting.Waiting.{Waiting}
 use Rattle.ql_replica.specs.Waiting.{FitsReplica, HoldSame, IsWatchIn, KeepsWaiting, Waits, Watches, held_by}
 use Rattle.ql_replica.specs.Progress.{AreKnown, IsMade, Advances, is_applied, settled, IsDecided, AreDecided, MayWatch, moved}

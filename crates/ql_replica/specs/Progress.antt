@@ -2,8 +2,8 @@
 use Rattle.std.specs.Prelude.{◌≡◌, ◌⊎◌, ℕ, ◌<◌, Bool, false, ◌||◌, cond, List, [], ◌∷◌, length, Option, Some, None, slice_index}
 use Rattle.ql_base.specs.IdLists.{has_id}
 use Rattle.ql_exec.specs.declared.effect.Effect.{Effect}
-use Rattle.ql_needs.specs.Closed.{Has}
-use Rattle.ql_needs.specs.Needs.{Needs, IsNeeded, IsPackage}
+use Rattle.ql_holder.specs.Closed.{Has}
+use Rattle.ql_holder.specs.Needs.{Needs, IsNeeded, IsPackage}
 use Rattle.ql_holder.specs.Arrivals.{Applied, IsLeastMissing}
 use Rattle.ql_replica.specs.declared.waiting.Waiting.{Waiting}
 

@@ -2,10 +2,10 @@
 use Rattle.std.specs.Prelude.{◌++◌, ℕ, List, Option}
 use Rattle.ql_exec.specs.declared.effect.Effect.{Effect}
 use Rattle.ql_exec.specs.Execution.{IsExecution}
-use Rattle.ql_needs.specs.Needs.{Needs, JoinsNone}
-use Rattle.ql_needs.proofs.ClosedLaws.{reached-more}
-use Rattle.ql_needs.proofs.NeedsLaws.{closed-grown, needs-longer}
-use Rattle.ql_needs.proofs.Packages.{whole-grown, package-grown, joins-fewer}
+use Rattle.ql_holder.specs.Needs.{Needs, JoinsNone}
+use Rattle.ql_holder.proofs.ClosedLaws.{reached-more}
+use Rattle.ql_holder.proofs.NeedsLaws.{closed-grown, needs-longer}
+use Rattle.ql_holder.proofs.Packages.{whole-grown, package-grown, joins-fewer}
 use Rattle.ql_replica.specs.declared.waiting.Waiting.{Waiting}
 use Rattle.ql_replica.specs.Waiting.{FitsReplica, Watches}
 

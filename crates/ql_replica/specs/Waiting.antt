@@ -3,8 +3,8 @@ use Rattle.std.specs.Prelude.{◌≡◌, ◌⊎◌, ℕ, false, List, Option, So
 use Rattle.ql_base.specs.IdLists.{IsAscending, has_id}
 use Rattle.ql_base.specs.declared.ids.EffId.{EffId}
 use Rattle.ql_exec.specs.declared.effect.Effect.{Effect}
-use Rattle.ql_needs.specs.Closed.{Has}
-use Rattle.ql_needs.specs.Needs.{AreWhole, IsPackage, IsNeeded}
+use Rattle.ql_holder.specs.Closed.{Has}
+use Rattle.ql_holder.specs.Needs.{AreWhole, IsPackage, IsNeeded}
 use Rattle.ql_holder.specs.Arrivals.{Applied}
 use Rattle.ql_ranges.specs.declared.ranges.IdRange.{IdRange}
 use Rattle.ql_replica.specs.declared.waiting.Waiting.{Waiting}

@@ -1,11 +1,11 @@
 ghost use Rattle.std.specs.Prelude.{◌≡◌, ℕ, List, Some, IfOk, OnOk, OnErr};
 ghost use Rattle.ql_base.specs.IdLists.{IsAscending};
 ghost use Rattle.ql_exec.specs.declared.effect.Effect.{Effect};
-ghost use Rattle.ql_needs.specs.Closed.{Has};
-ghost use Rattle.ql_needs.specs.Needs.{IsPackage};
+ghost use Rattle.ql_holder.specs.Closed.{Has};
+ghost use Rattle.ql_holder.specs.Needs.{IsPackage};
 ghost use Rattle.ql_holder.specs.Arrivals.{ChangesNothing, IsArrival, IsGain, IsLeastMissing, IsNew};
 ghost use Rattle.ql_ranges.specs.Ranges.{ids_of};
-ghost use Rattle.ql_reach.specs.Reach.{IsReach};
+ghost use Rattle.ql_ranges.specs.Reach.{IsReach};
 ghost use Rattle.ql_replica.specs.declared.waiting.Waiting.{Waiting};
 ghost use Rattle.ql_replica.specs.Progress.{AreKnown, MayWatch};
 ghost use Rattle.ql_replica.specs.Waiting.{FitsReplica};
@@ -17,8 +17,7 @@ use crate::walking::{Progress, first_outside, walk_waiting, without};
 use ql_base::{EffId, IdSet, NoMemory};
 use ql_exec::Execution;
 use ql_holder::Arrival;
-use ql_ranges::Ranges;
-use ql_reach::reach;
+use ql_ranges::{Ranges, reach};
 use slab::Slab;
 use std::alloc::Global;
 

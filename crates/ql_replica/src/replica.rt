@@ -1,7 +1,7 @@
 ghost use Rattle.std.specs.Prelude.{◌≡◌, List, IfOk, IfSome, OnOk};
 ghost use Rattle.ql_exec.specs.declared.effect.Effect.{Effect};
-ghost use Rattle.ql_needs.specs.Closed.{Reaches};
-ghost use Rattle.ql_needs.specs.Needs.{Needs};
+ghost use Rattle.ql_holder.specs.Closed.{Reaches};
+ghost use Rattle.ql_holder.specs.Needs.{Needs};
 ghost use Rattle.ql_ranges.specs.Ranges.{ids_of};
 ghost use Rattle.ql_replica.specs.Waiting.{FitsReplica, HoldSame, IsWatch, IsWatchIn, IsWithSlot, held_by};
 ghost use Rattle.slab.specs.Slab.{get};

@@ -1,7 +1,7 @@
 ghost use Rattle.std.specs.Prelude.{◌≡◌, ◌≤◌, ◌≢◌, ℕ, false, Some, length, slice_index};
 ghost use Rattle.std.specs.Bool.{OnTrue, OnFalse};
 ghost use Rattle.ql_base.specs.IdLists.{has_id};
-ghost use Rattle.ql_needs.specs.Closed.{Has};
+ghost use Rattle.ql_holder.specs.Closed.{Has};
 ghost use Rattle.ql_ranges.specs.Ranges.{ids_of};
 ghost use Rattle.ql_replica.specs.declared.waiting.Waiting.{Waiting};
 ghost use Rattle.ql_replica.specs.Progress.{is_applied, moved, settled};

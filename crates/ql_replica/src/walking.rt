@@ -1,19 +1,18 @@
 ghost use Rattle.std.specs.Prelude.{◌≡◌, ◌≤◌, ◌&&◌, ◌||◌, not, nat_eq, ℕ, false, Some, length, IfOk, OnOk};
 ghost use Rattle.std.specs.Bool.{OnTrue, OnFalse};
 ghost use Rattle.ql_base.specs.IdLists.{IsAscending, has_id, union_of};
-ghost use Rattle.ql_needs.specs.Closed.{Has};
-ghost use Rattle.ql_needs.specs.Needs.{IsPackage};
+ghost use Rattle.ql_holder.specs.Closed.{Has};
+ghost use Rattle.ql_holder.specs.Needs.{IsPackage};
 ghost use Rattle.ql_ranges.specs.Ranges.{ids_of};
 ghost use Rattle.ql_replica.specs.declared.waiting.Waiting.{Waiting};
-ghost use Rattle.ql_needs.specs.Missing.{IsFirstMissing};
+ghost use Rattle.ql_holder.specs.Missing.{IsFirstMissing};
 ghost use Rattle.ql_replica.specs.Progress.{Advances, AreDecided, AreKnown, IsDecided, IsWalked, MayWatch};
 ghost use Rattle.slab.specs.Slab.{get};
 
 use crate::waiting::Waiting;
 use ql_base::{IdSet, NoMemory};
 use ql_exec::Execution;
-use ql_ranges::Ranges;
-use ql_reach::reach;
+use ql_ranges::{Ranges, reach};
 use slab::Slab;
 use std::alloc::Global;
 

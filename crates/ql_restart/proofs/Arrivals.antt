@@ -3,7 +3,7 @@ use Rattle.std.proofs.Common.{◌≡◌, ℕ, Bool, true, false, cond, not, ◌|
 use Rattle.std.specs.List.{AllByRecursion}
 use Rattle.std.proofs.lemmas.Bool.{cases_Bool, false≢true, false_from_ne_true, or_cases, or_left, or_parts, or_right, eq-eqb, eqb-true}
 use Rattle.ql_base.specs.IdLists.{IsAscending, has_id}
-use Rattle.ql_needs.specs.Closed.{Has}
+use Rattle.ql_holder.specs.Closed.{Has}
 use Rattle.ql_machine.specs.declared.event.Event.{Event}
 use Rattle.ql_machine.specs.declared.reply.Reply.{Reply}
 use Rattle.ql_machine.specs.Calls.{IsCall, undeclared, unused, unavailable, held, blocked, makes, makes_strong, makes_own}
@@ -13,9 +13,9 @@ use Rattle.ql_machine.specs.Rules.{Call, Rules}
 use Rattle.ql_machine.specs.State.{Machine, received_at}
 use Rattle.ql_machine.specs.Steps.{IsStep, calls, already_open, begins, none_open, commits, delivers, none_to_repeat, repeats, none_to_lose, loses, absent, resends, splits, heals, joins_copy, joins_bare}
 use Rattle.ql_exec.specs.Execution.{next_id}
-use Rattle.ql_machine_laws.specs.Kept.{Keeps}
-use Rattle.ql_machine_laws.proofs.Keeping.{keeps-empty, keeps-step}
-use Rattle.ql_machine_laws.proofs.Lists.{all-kept, received-kept}
+use Rattle.ql_machine.specs.Kept.{Keeps}
+use Rattle.ql_machine.proofs.Keeping.{keeps-empty, keeps-step}
+use Rattle.ql_machine.proofs.Lists.{all-kept, received-kept}
 use Rattle.ql_watched.specs.Watching.{Watches, nothing, more, new_ids}
 use Rattle.ql_restart.specs.Progress.{AreDistinct, CanRecover}
 use Rattle.ql_restart.proofs.Counting.{below-absent}

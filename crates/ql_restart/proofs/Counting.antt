@@ -3,8 +3,8 @@ use Rattle.std.proofs.Common.{◌≡◌, ◌+◌, ◌<◌, ◌≤◌, ℕ, suc, 
 use Rattle.std.proofs.lemmas.Bool.{cases_lt, false≢true, ne_eqb, or_cases, or_left, or_parts, or_right, eq-eqb, eqb-true, lt-ltb}
 use Rattle.ql_base.specs.IdLists.{IsAscending, IsBelowAll, has_id, union_of, with_id}
 use Rattle.ql_base.proofs.IdLemmas.{get_or-rises, with_id-later}
-use Rattle.ql_needs.specs.Closed.{Has}
-use Rattle.ql_needs.proofs.IdSets.{has_id-union}
+use Rattle.ql_holder.specs.Closed.{Has}
+use Rattle.ql_holder.proofs.IdSets.{has_id-union}
 
 length-with : (ids : List ℕ) (id : ℕ) → has_id ids id ≡ false → length (with_id ids id) ≡ suc (length ids)
 length-with [] id absent = refl

@@ -6,9 +6,9 @@ use Rattle.ql_base.proofs.IdLemmas.{has_id-there}
 use Rattle.ql_exec.specs.declared.effect.Effect.{Effect}
 use Rattle.ql_exec.specs.Relations.{sametxn, some_below}
 use Rattle.ql_machine.specs.Sets.{AreThose}
-use Rattle.ql_machine_laws.specs.Kept.{IsParcel}
-use Rattle.ql_needs.specs.Closed.{Has}
-use Rattle.ql_needs.proofs.Packages.{sametxn-back, sametxn-itself}
+use Rattle.ql_machine.specs.Kept.{IsParcel}
+use Rattle.ql_holder.specs.Closed.{Has}
+use Rattle.ql_holder.proofs.Packages.{sametxn-back, sametxn-itself}
 use Rattle.ql_restart.specs.Journaled.{is_first}
 use Rattle.ql_restart.proofs.Counting.{first_least, index_of}
 

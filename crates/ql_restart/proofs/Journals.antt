@@ -16,8 +16,8 @@ use Rattle.ql_journal.specs.declared.why.StationWhy.TheVariants as why
 use Rattle.ql_journal.specs.Records.{HasRecords, in_records}
 use Rattle.ql_journal.specs.Stations.{holder_of}
 use Rattle.ql_journal.proofs.EndLaws.{one_list}
-use Rattle.ql_needs.specs.Closed.{Has}
-use Rattle.ql_needs.proofs.Packages.{sametxn-along, sametxn-back}
+use Rattle.ql_holder.specs.Closed.{Has}
+use Rattle.ql_holder.proofs.Packages.{sametxn-along, sametxn-back}
 use Rattle.ql_restart.specs.Journaled.{is_first, packages}
 use Rattle.ql_restart.specs.Progress.{AreDistinct, AreOfFirst, IsJournal, IsReady, Receives, UnlessNoMemory, calls_left}
 use Rattle.ql_restart.proofs.Arrivals.{distinct-before, in-filter}

@@ -16,11 +16,11 @@ use Rattle.ql_journal.specs.declared.station.Station.{Station}
 use Rattle.ql_journal.specs.declared.why.StationWhy.{StationWhy}
 use Rattle.ql_journal.specs.declared.why.StationWhy.TheVariants as why
 use Rattle.ql_journal.specs.Stations.{IsForetold, IsOfReceipt, end_after, records_after}
-use Rattle.ql_machine_laws.specs.Kept.{IsParcel}
-use Rattle.ql_needs.specs.Closed.{Has}
-use Rattle.ql_needs.specs.Needs.{AreWhole}
-use Rattle.ql_needs.proofs.IdSets.{in_union-cases}
-use Rattle.ql_needs.proofs.Packages.{package-member, package-whole}
+use Rattle.ql_machine.specs.Kept.{IsParcel}
+use Rattle.ql_holder.specs.Closed.{Has}
+use Rattle.ql_holder.specs.Needs.{AreWhole}
+use Rattle.ql_holder.proofs.IdSets.{in_union-cases}
+use Rattle.ql_holder.proofs.Packages.{package-member, package-whole}
 use Rattle.ql_restart.specs.Progress.{Receives, calls_left}
 use Rattle.ql_restart.proofs.Counting.{between, index_of, length-union}
 

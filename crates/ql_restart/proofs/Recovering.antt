@@ -9,10 +9,10 @@ use Rattle.ql_journal.specs.Ends.{AreKnown}
 use Rattle.ql_journal.specs.Records.{IsLawful, in_records}
 use Rattle.ql_machine.specs.Sets.{AreThose}
 use Rattle.ql_machine.specs.State.{Machine, NeedsNow}
-use Rattle.ql_machine_laws.specs.Kept.{IsDone}
-use Rattle.ql_machine_laws.proofs.Alone.{reaches-same}
-use Rattle.ql_needs.specs.Closed.{Closed, Has}
-use Rattle.ql_needs.proofs.ClosedLaws.{closed-member}
+use Rattle.ql_machine.specs.Kept.{IsDone}
+use Rattle.ql_machine.proofs.Alone.{reaches-same}
+use Rattle.ql_holder.specs.Closed.{Closed, Has}
+use Rattle.ql_holder.proofs.ClosedLaws.{closed-member}
 use Rattle.ql_restart.specs.Journaled.{IsJournaled, is_first, packages}
 use Rattle.ql_restart.specs.Progress.{AreOfFirst, CanRecover, HasKnown, IsJournal}
 use Rattle.ql_restart.proofs.Arrivals.{in-filter}

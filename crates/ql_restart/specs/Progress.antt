@@ -15,7 +15,7 @@ use Rattle.ql_journal.specs.Records.{HasRecords}
 use Rattle.ql_journal.specs.Stations.{Agrees, end_of, holder_of, is_stopped}
 use Rattle.ql_machine.specs.Rules.{Promises}
 use Rattle.ql_machine.specs.State.{Machine}
-use Rattle.ql_machine_laws.specs.Kept.{AreDone, Keeps}
+use Rattle.ql_machine.specs.Kept.{AreDone, Keeps}
 
 -- ---- the disk
 

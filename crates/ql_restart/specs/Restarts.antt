@@ -13,7 +13,7 @@ use Rattle.ql_lines.specs.Texts.{spaced_fields}
 use Rattle.ql_machine.specs.Runs.{replicas_at_end}
 use Rattle.ql_machine.specs.Sets.{AreThose}
 use Rattle.ql_machine.specs.State.{Machine, NeedsNow}
-use Rattle.ql_needs.specs.Closed.{Closed, Has}
+use Rattle.ql_holder.specs.Closed.{Closed, Has}
 use Rattle.ql_running.specs.Runs.{NoRunSays}
 use Rattle.ql_schedule.specs.declared.schedule.Schedule.{Schedule}
 use Rattle.ql_schedule.specs.Files.{IsScheduleFile}

@@ -2,8 +2,8 @@ ghost use Rattle.std.specs.Prelude.{◌≡◌, ◌-◌, ◌<◌, ◌≤◌, ℕ,
 ghost use Rattle.ql_base.specs.IdLists.{has_id};
 ghost use Rattle.ql_disk.specs.MemDisks.{bytes_of, content_of};
 ghost use Rattle.ql_journal.specs.Stations.{holder_of};
-ghost use Rattle.ql_machine_laws.specs.Kept.{IsParcel};
-ghost use Rattle.ql_needs.specs.Closed.{Has};
+ghost use Rattle.ql_machine.specs.Kept.{IsParcel};
+ghost use Rattle.ql_holder.specs.Closed.{Has};
 ghost use Rattle.ql_restart.specs.Journaled.{packages};
 ghost use Rattle.ql_restart.specs.Progress.{AreOnce, IsJournal, IsReady, Receives, UnlessNoMemory, calls_left};
 

@@ -4,7 +4,7 @@ ghost use Rattle.ql_disk.specs.MemDisks.{content_of};
 ghost use Rattle.ql_journal.specs.Records.{HasRecords, in_records};
 ghost use Rattle.ql_journal.specs.Stations.{holder_of};
 ghost use Rattle.ql_machine.specs.Sets.{AreThose};
-ghost use Rattle.ql_needs.specs.Closed.{Has};
+ghost use Rattle.ql_holder.specs.Closed.{Has};
 ghost use Rattle.ql_restart.specs.Progress.{CanRecover, HasKnown, calls_left};
 ghost use Rattle.ql_restart.specs.Restarts.{IsRestartText, id_line};
 

@@ -25,9 +25,9 @@ use Rattle.ql_machine.specs.Calls.{IsCall, blocked, held, makes, makes_own, make
 use Rattle.ql_machine.specs.Deliveries.{IsDelivery, again, applies, cut, gone, waits}
 use Rattle.ql_machine.specs.Steps.{IsStep, absent, already_open, begins, begun_txn, calls, commits, delivers, heals, joins_bare, joins_copy, loses, none_open, none_to_lose, none_to_repeat, repeats, resends, splits}
 use Rattle.ql_machine.specs.Runs.{IsRun, Leads, replicas_after, step, stop}
-use Rattle.ql_machine_laws.specs.Promised.{asks}
-use Rattle.ql_machine_laws.proofs.Keeping.{nothing-there}
-use Rattle.ql_machine_laws.proofs.Lists.{open-cases, without-cases}
+use Rattle.ql_machine.specs.Promised.{asks}
+use Rattle.ql_machine.proofs.Keeping.{nothing-there}
+use Rattle.ql_machine.proofs.Lists.{open-cases, without-cases}
 use Rattle.ql_run_text.specs.EffectTexts.{AreNamed, IsDeclared}
 use Rattle.ql_run_text.specs.ReplyTexts.{AreAnswered, IsAnswered}
 use Rattle.ql_runs.specs.Keeping.{FitsSchedule}

@@ -8,7 +8,7 @@ use Rattle.ql_eval.specs.Folds.{answered_of}
 use Rattle.ql_formula.specs.Truth.{Holds, HoldsTxn}
 use Rattle.ql_lang.specs.Formulas.{Resolved}
 use Rattle.ql_lang.specs.declared.program.Program.{Program}
-use Rattle.ql_machine_laws.specs.Promised.{IsUnderName}
+use Rattle.ql_machine.specs.Promised.{IsUnderName}
 use Rattle.ql_typing.specs.Operations.{op_contracts, txn_contracts}
 
 module _ (p : Program) (x : List Effect) where

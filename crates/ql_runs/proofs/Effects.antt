@@ -31,8 +31,8 @@ use Rattle.ql_machine.specs.Changes.{effect_made, member_of}
 use Rattle.ql_machine.specs.Calls.{IsCall, MayAnswer, blocked, held, makes, makes_own, makes_strong, unavailable, undeclared, unused}
 use Rattle.ql_machine.specs.Deliveries.{IsDelivery, again, applies, cut, gone, waits}
 use Rattle.ql_machine.specs.Steps.{IsStep, absent, already_open, begins, calls, commits, delivers, heals, joins_bare, joins_copy, loses, none_open, none_to_lose, none_to_repeat, repeats, resends, splits}
-use Rattle.ql_machine_laws.proofs.Growth.{Grows, stays, gains, grows}
-use Rattle.ql_needs.specs.Closed.{Has}
+use Rattle.ql_machine.proofs.Growth.{Grows, stays, gains, grows}
+use Rattle.ql_holder.specs.Closed.{Has}
 use Rattle.ql_schedule.specs.Guarantees.{FitsCall, FitsEvent}
 use Rattle.ql_typing.specs.Operations.{all_ops, op_kinds}
 use Rattle.ql_value.specs.declared.value.Value.{Value}

@@ -8,7 +8,7 @@ use Rattle.ql_base.specs.Names.{IsName}
 use Rattle.ql_base.specs.Numbering.{has_name, with_name}
 use Rattle.ql_base.specs.declared.ids.TypeId.{TypeId}
 use Rattle.ql_lang.specs.declared.program.Program.{Program}
-use Rattle.ql_line_files.specs.Outcomes.{Leads}
+use Rattle.ql_lines.specs.Outcomes.{Leads}
 use Rattle.ql_lines.specs.Fields.{Fields}
 use Rattle.ql_lines.specs.Lines.{ahead_from}
 use Rattle.ql_lines.specs.Texts.{file_text}

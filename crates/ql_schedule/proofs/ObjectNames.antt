@@ -9,7 +9,7 @@ use Rattle.std.proofs.lemmas.Slice.Eq.{bytes_eq-Decides}
 use Rattle.ql_base.specs.Names.{IsName}
 use Rattle.ql_base.specs.Numbering.{has_name, place, with_name}
 use Rattle.ql_lang.specs.declared.program.Program.{Program}
-use Rattle.ql_line_files.specs.Outcomes.{Leads}
+use Rattle.ql_lines.specs.Outcomes.{Leads}
 use Rattle.ql_lines.specs.Fields.{Fields}
 use Rattle.ql_lines.specs.Lines.{Ahead, Numbered}
 use Rattle.ql_schedule.specs.declared.header.Declaration.{Declaration}

@@ -1,9 +1,9 @@
 -- a file says one schedule or has one first fault, and never both or neither
 use Rattle.std.proofs.Common.{◌≡◌, Result, Ok, Err, refl, ap, sym, ◌∙◌}
 use Rattle.ql_lang.specs.declared.program.Program.{Program}
-use Rattle.ql_line_files.specs.declared.fault.Broken.{Broken}
-use Rattle.ql_line_files.specs.Outcomes.{Outcome}
-use Rattle.ql_line_files.proofs.OneOutcome as law
+use Rattle.ql_lines.specs.declared.fault.Broken.{Broken}
+use Rattle.ql_lines.specs.Outcomes.{Outcome}
+use Rattle.ql_lines.proofs.OneOutcome as law
 use Rattle.ql_lines.specs.Lines.{Ahead}
 use Rattle.ql_schedule.specs.declared.fault.SchedFault.{SchedFault}
 use Rattle.ql_schedule.specs.declared.reading.Reading.TheVariants.{Untitled}

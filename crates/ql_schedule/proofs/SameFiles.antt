@@ -7,7 +7,7 @@ use Rattle.ql_typing.proofs.SameSource.{same-op-kinds, same-op-place, same-ops, 
 use Rattle.ql_lang.specs.declared.operation.OpDecl.{OpDecl}
 use Rattle.ql_lang.specs.declared.program.Program.{Program}
 use Rattle.ql_lang.specs.Programs.{Operation, operation_of, source_of}
-use Rattle.ql_line_files.specs.Outcomes.{Leads}
+use Rattle.ql_lines.specs.Outcomes.{Leads}
 use Rattle.ql_lines.specs.Fields.{Fields}
 use Rattle.ql_lines.specs.Lines.{Ahead, Numbered}
 use Rattle.ql_schedule.specs.declared.argument.Argument.{Argument}

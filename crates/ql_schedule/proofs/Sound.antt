@@ -20,7 +20,7 @@ use Rattle.ql_lang.specs.declared.operation.Param.{Param}
 use Rattle.ql_lang.specs.declared.program.Program.{Program}
 use Rattle.ql_lang.specs.declared.program.TypeDecl.{TypeDecl}
 use Rattle.ql_lang.specs.declared.program.TxnDecl.{TxnDecl}
-use Rattle.ql_line_files.specs.Outcomes.{Leads}
+use Rattle.ql_lines.specs.Outcomes.{Leads}
 use Rattle.ql_lines.specs.Lines.{Ahead, Numbered}
 use Rattle.ql_machine.specs.declared.event.Event.{Event}
 use Rattle.ql_machine.specs.Runs.{replicas_after, replicas_at_end}

@@ -1,8 +1,8 @@
 -- The files of schedules.
 use Rattle.std.specs.Prelude.{◌≡◌, Result}
 use Rattle.ql_lang.specs.declared.program.Program.{Program}
-use Rattle.ql_line_files.specs.declared.fault.Broken.{Broken}
-use Rattle.ql_line_files.specs.Outcomes.{FirstFault, Says}
+use Rattle.ql_lines.specs.declared.fault.Broken.{Broken}
+use Rattle.ql_lines.specs.Outcomes.{FirstFault, Says}
 use Rattle.ql_lines.specs.Lines.{Ahead, Numbered}
 use Rattle.ql_schedule.specs.declared.fault.SchedFault.{SchedFault}
 use Rattle.ql_schedule.specs.declared.fault.SchedFault.TheVariants as fault

@@ -1,10 +1,10 @@
 -- The state of reading after one more line, and the content of a file that ends there.
 use Rattle.std.specs.Prelude.{ℕ, ◌≡◌, Bool, true, false, Some, None, Result, Ok, Err}
 use Rattle.ql_lang.specs.declared.program.Program.{Program}
-use Rattle.ql_line_files.specs.declared.fault.Broken.{Broken}
-use Rattle.ql_line_files.specs.declared.fault.FileFault.{FileFault}
-use Rattle.ql_line_files.specs.declared.fault.FileFault.TheVariants as file
-use Rattle.ql_line_files.specs.declared.fault.LineFault.{LineFault}
+use Rattle.ql_lines.specs.declared.fault.Broken.{Broken}
+use Rattle.ql_lines.specs.declared.fault.FileFault.{FileFault}
+use Rattle.ql_lines.specs.declared.fault.FileFault.TheVariants as file
+use Rattle.ql_lines.specs.declared.fault.LineFault.{LineFault}
 use Rattle.ql_lines.specs.Fields.{Fields}
 use Rattle.ql_schedule.specs.declared.event_line.EventLine.{EventLine}
 use Rattle.ql_schedule.specs.declared.fault.SchedFault.{SchedFault}

@@ -2,7 +2,7 @@ ghost use Rattle.std.specs.Prelude.{◌≡◌};
 ghost use Rattle.ql_schedule.specs.Outcomes.{fault_of};
 
 use crate::rules::SchedRule;
-use ql_line_files::{Broken, FileFault};
+use ql_lines::{Broken, FileFault};
 
 /// Why a text isn't a schedule of a program, with the number of the first faulty line, from 1. If the file
 /// ends before its events, that is the line after its last. If a line has several faults, the first in this

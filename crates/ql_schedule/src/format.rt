@@ -6,7 +6,7 @@ ghost use Rattle.ql_schedule.specs.OneLine.{closes_one, closes_some, gives_one, 
 use crate::reading::{Reading, take};
 use crate::rules::SchedRule;
 use crate::schedule::Schedule;
-use ql_line_files::{Broken, FileFault, LineFault, LineFormat};
+use ql_lines::{Broken, FileFault, LineFault, LineFormat};
 use ql_typing::Typed;
 use std::alloc::Global;
 

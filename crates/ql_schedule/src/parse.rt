@@ -7,7 +7,7 @@ ghost use Rattle.ql_schedule.specs.Texts.{AreNamed};
 use crate::fault::{SchedFault, fault_of};
 use crate::format::Format;
 use crate::schedule::Schedule;
-use ql_line_files::read_file;
+use ql_lines::read_file;
 use ql_typing::Typed;
 use std::alloc::Global;
 

@@ -1,8 +1,8 @@
 ghost use Rattle.std.specs.Prelude.{◌≡◌, false, IfOk, OnOk, MatchResult, None, Some};
 ghost use Rattle.std.specs.Result.{result_err};
 ghost use Rattle.ql_lang.specs.declared.program.Program.{Program};
-ghost use Rattle.ql_line_files.specs.Answers.{IsLineAnswer};
-ghost use Rattle.ql_line_files.specs.declared.fault.LineFault.TheVariants.{Breaks};
+ghost use Rattle.ql_lines.specs.Answers.{IsLineAnswer};
+ghost use Rattle.ql_lines.specs.declared.fault.LineFault.TheVariants.{Breaks};
 ghost use Rattle.ql_schedule.specs.declared.header.Declaration.TheVariants.{Object};
 ghost use Rattle.ql_schedule.specs.declared.rules.SchedRule.{SchedRule};
 ghost use Rattle.ql_schedule.specs.declared.reading.Reading.TheVariants.{Declaring, Running, Titled, Untitled};
@@ -21,7 +21,7 @@ use crate::making::event;
 use crate::rules::{Faults, SchedRule};
 use crate::schedule::{Events, Schedule, TypeIds};
 use ql_base::{Names, NoMemory, TypeId, Word};
-use ql_line_files::LineFault;
+use ql_lines::LineFault;
 use ql_typing::Typed;
 use std::alloc::Global;
 

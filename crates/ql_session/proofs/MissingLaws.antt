@@ -4,7 +4,7 @@ use Rattle.std.specs.Option.{option_map_or}
 use Rattle.std.proofs.lemmas.Bool.{cases_Bool, false≢true, or_cases, or_left, or_right, eq-eqb, eqb-true}
 use Rattle.ql_base.specs.IdLists.{IsAscending, IsBelowAll, has_id}
 use Rattle.ql_base.specs.declared.ids.EffId.{EffId}
-use Rattle.ql_needs.specs.Closed.{Has}
+use Rattle.ql_holder.specs.Closed.{Has}
 use Rattle.ql_session.specs.Notes.{IsLeastMissing, missing_with}
 
 -- ---- one id at the end

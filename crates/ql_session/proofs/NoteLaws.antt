@@ -7,7 +7,7 @@ use Rattle.ql_base.specs.declared.ids.ObjId.{ObjId}
 use Rattle.ql_exec.specs.declared.effect.Effect.{Effect}
 use Rattle.ql_exec.specs.Effects.{effect_at}
 use Rattle.ql_exec.specs.Execution.{IsOn}
-use Rattle.ql_needs.specs.Closed.{Has}
+use Rattle.ql_holder.specs.Closed.{Has}
 use Rattle.ql_machine.specs.Sets.{AreThose}
 use Rattle.ql_session.specs.Notes.{effects_on, effects_where}
 use Rattle.ql_session.specs.declared.note.Note.{Note}

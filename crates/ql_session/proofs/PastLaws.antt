@@ -10,8 +10,8 @@ use Rattle.ql_exec.specs.Execution.{IsExecution, IsOn}
 use Rattle.ql_exec.specs.Relations.{hb, hb_step, leads, soo, so, vis}
 use Rattle.ql_exec.proofs.Chains.{leads-cases, leads-step, leads-more}
 use Rattle.ql_exec.proofs.Finding.{effect_at-within, so_parts}
-use Rattle.ql_needs.specs.Closed.{Has}
-use Rattle.ql_needs.proofs.NeedsLaws.{at-first, step-before}
+use Rattle.ql_holder.specs.Closed.{Has}
+use Rattle.ql_holder.proofs.NeedsLaws.{at-first, step-before}
 use Rattle.ql_machine.specs.Blocking.{InPast}
 use Rattle.ql_session.specs.Past.{IsLeastOf}
 

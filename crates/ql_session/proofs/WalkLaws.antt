@@ -9,8 +9,8 @@ use Rattle.ql_exec.specs.Effects.{effect_at, both}
 use Rattle.ql_exec.specs.Execution.{IsExecution, IsOn}
 use Rattle.ql_exec.specs.Relations.{hb, hb_step, so, vis}
 use Rattle.ql_exec.proofs.Finding.{so_parts, so_from, both-found}
-use Rattle.ql_needs.specs.Closed.{Has}
-use Rattle.ql_needs.proofs.IdSets.{has_id-with}
+use Rattle.ql_holder.specs.Closed.{Has}
+use Rattle.ql_holder.proofs.IdSets.{has_id-with}
 use Rattle.ql_machine.specs.Blocking.{IsOf}
 use Rattle.ql_machine.specs.Blocking.{InPast, IsAtHand}
 use Rattle.ql_session.specs.Walks.{GoesDown, IsVisited, IsWalk, Joins}

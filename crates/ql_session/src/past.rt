@@ -2,7 +2,7 @@ ghost use Rattle.std.specs.Prelude.{◌≡◌, ◌↔◌, ◌-◌, ◌≤◌, �
 ghost use Rattle.ql_base.specs.IdLists.{IsAscending, has_id};
 ghost use Rattle.ql_exec.specs.declared.effect.Effect.{Effect};
 ghost use Rattle.ql_exec.specs.Execution.{IsExecution};
-ghost use Rattle.ql_needs.specs.Closed.{Has};
+ghost use Rattle.ql_holder.specs.Closed.{Has};
 ghost use Rattle.ql_ranges.specs.Ranges.{ids_of};
 ghost use Rattle.ql_machine.specs.Blocking.{InPast};
 ghost use Rattle.ql_session.specs.Past.{IsLeastOf};

@@ -11,10 +11,10 @@ use Rattle.ql_exec.specs.Effects.{effect_at}
 use Rattle.ql_exec.specs.Execution.{IsExecution, IsOn}
 use Rattle.ql_exec.specs.Relations.{so, soo, sameobj, vis, hbo_step}
 use Rattle.ql_exec.proofs.Finding.{both-found, so_parts}
-use Rattle.ql_needs.specs.Closed.{Has}
-use Rattle.ql_needs.proofs.NeedsLaws.{step-before}
-use Rattle.ql_needs.proofs.IdSets.{has_id-with}
-use Rattle.ql_needs.proofs.Members.{index-has}
+use Rattle.ql_holder.specs.Closed.{Has}
+use Rattle.ql_holder.proofs.NeedsLaws.{step-before}
+use Rattle.ql_holder.proofs.IdSets.{has_id-with}
+use Rattle.ql_holder.proofs.Members.{index-has}
 use Rattle.ql_machine.specs.Blocking.{IsOf}
 use Rattle.ql_machine.specs.Sets.{AreThose, has_all}
 use Rattle.ql_shim.specs.Joined.{IsJoined, IsNextJoined, is_seen_next}

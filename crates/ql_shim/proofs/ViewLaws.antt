@@ -14,10 +14,10 @@ use Rattle.ql_exec.specs.Execution.{IsExecution, IsOn}
 use Rattle.ql_exec.specs.Relations.{inside, hbo_step}
 use Rattle.ql_levels.specs.declared.level.TxnLevel.{TxnLevel}
 use Rattle.ql_levels.specs.declared.level.TxnLevel.TheVariants.{Mav}
-use Rattle.ql_needs.specs.Closed.{Closed, Has, Reaches, here, through}
-use Rattle.ql_needs.specs.Needs.{Needs}
-use Rattle.ql_needs.proofs.ClosedLaws.{closed-member, closed-need, reached-more}
-use Rattle.ql_needs.proofs.NeedsLaws.{step-before}
+use Rattle.ql_holder.specs.Closed.{Closed, Has, Reaches, here, through}
+use Rattle.ql_holder.specs.Needs.{Needs}
+use Rattle.ql_holder.proofs.ClosedLaws.{closed-member, closed-need, reached-more}
+use Rattle.ql_holder.proofs.NeedsLaws.{step-before}
 use Rattle.ql_machine.specs.declared.open_txn.OpenTxn.{OpenTxn}
 use Rattle.ql_machine.specs.Blocking.{IsOf}
 use Rattle.ql_machine.specs.Sets.{AreThose}

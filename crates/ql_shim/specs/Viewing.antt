@@ -9,8 +9,8 @@ use Rattle.ql_exec.specs.Effects.{effect_at}
 use Rattle.ql_exec.specs.Execution.{IsOn}
 use Rattle.ql_exec.specs.Relations.{inside, vis}
 use Rattle.ql_levels.specs.declared.level.TxnLevel.{TxnLevel}
-use Rattle.ql_needs.specs.Closed.{Closed, Has, Reaches}
-use Rattle.ql_needs.specs.Needs.{Needs}
+use Rattle.ql_holder.specs.Closed.{Closed, Has, Reaches}
+use Rattle.ql_holder.specs.Needs.{Needs}
 use Rattle.ql_machine.specs.declared.open_txn.OpenTxn.{OpenTxn}
 use Rattle.ql_machine.specs.Blocking.{IsOf, MustHave}
 use Rattle.ql_machine.specs.Sets.{AreThose, IsLeast}

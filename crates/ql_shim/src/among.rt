@@ -1,6 +1,6 @@
 ghost use Rattle.std.specs.Prelude.{List, IfOk};
 ghost use Rattle.ql_exec.specs.declared.effect.Effect.{Effect};
-ghost use Rattle.ql_needs.specs.Closed.{Has};
+ghost use Rattle.ql_holder.specs.Closed.{Has};
 ghost use Rattle.ql_holder.specs.Arrivals.{Applied};
 ghost use Rattle.ql_machine.specs.Sets.{AreThose};
 

@@ -6,7 +6,7 @@ ghost use Rattle.ql_machine.specs.Sets.{AreThose};
 ghost use Rattle.ql_machine.specs.State.{open_of};
 ghost use Rattle.ql_shim.specs.Transactions.{AreApart, is_of, open_txns, own_of};
 ghost use Rattle.ql_base.specs.declared.ids.ObjId.{ObjId};
-ghost use Rattle.ql_needs.specs.Needs.{AreThere};
+ghost use Rattle.ql_holder.specs.Needs.{AreThere};
 ghost use Rattle.ql_shim.specs.Viewing.{IsAsked, IsLeastUnapplied, IsSeen, state_of};
 ghost use Rattle.ql_shim.specs.Changed.{IsBegun, IsFinished, IsLeastHolder, IsNoted, IsPlace, least_with};
 

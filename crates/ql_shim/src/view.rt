@@ -1,6 +1,6 @@
 ghost use Rattle.std.specs.Prelude.{List, IfOk};
 ghost use Rattle.ql_base.specs.declared.ids.ObjId.{ObjId};
-ghost use Rattle.ql_needs.specs.Needs.{AreThere};
+ghost use Rattle.ql_holder.specs.Needs.{AreThere};
 ghost use Rattle.ql_machine.specs.declared.open_txn.OpenTxn.{OpenTxn};
 ghost use Rattle.ql_machine.specs.Sets.{AreThose};
 ghost use Rattle.ql_shim.specs.Viewing.{IsAskedOf, IsLeastUnapplied, IsSeen, state_of};

@@ -4,7 +4,7 @@ use Rattle.std.proofs.lemmas.Bool.{false≢true, both_ways, cases_Bool, eq-eqb, 
 use Rattle.std.specs.Option.{option_map, option_map_or}
 use Rattle.ql_base.proofs.IdLemmas.{IsAscending-with_id}
 use Rattle.ql_base.specs.IdLists.{has_id, with_id}
-use Rattle.ql_needs.proofs.IdSets.{has_id-with}
+use Rattle.ql_holder.proofs.IdSets.{has_id-with}
 use Rattle.ql_base.specs.declared.ids.DeclId.{DeclId}
 use Rattle.ql_base.specs.declared.ids.ReplicaId.{ReplicaId}
 use Rattle.ql_base.specs.declared.ids.RunId.{RunId}
@@ -21,11 +21,11 @@ use Rattle.ql_machine.specs.Sets.{AreThose}
 use Rattle.ql_machine.specs.State.{Machine, open_of, received_at}
 use Rattle.ql_machine.specs.Steps.{IsStep, after_begin, begins, begun_txn}
 use Rattle.ql_machine.specs.Views.{Applied}
-use Rattle.ql_machine_laws.specs.Kept.{Keeps, TxnsKept}
-use Rattle.ql_machine_laws.proofs.Alone.{applied-same}
-use Rattle.ql_machine_laws.proofs.Lists.{open-cases}
-use Rattle.ql_machine_laws.proofs.Pushed.{inside-found, same_session}
-use Rattle.ql_machine_laws.proofs.SoundLaws.{none-own}
+use Rattle.ql_machine.specs.Kept.{Keeps, TxnsKept}
+use Rattle.ql_machine.proofs.Alone.{applied-same}
+use Rattle.ql_machine.proofs.Lists.{open-cases}
+use Rattle.ql_machine.proofs.Pushed.{inside-found, same_session}
+use Rattle.ql_machine.proofs.SoundLaws.{none-own}
 use Rattle.ql_net.specs.Network.{Network}
 use Rattle.ql_shim.specs.declared.running.Running.{Running}
 use Rattle.ql_shim.specs.Changed.{IsBegun, IsSame}

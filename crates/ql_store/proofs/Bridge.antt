@@ -1,12 +1,12 @@
 -- A replica judges with every transaction taken as committed: of sets of committed effects that is what the machine does.
 use Rattle.std.proofs.Common.{◌↔◌, ℕ, List, inl, inr, refl}
 use Rattle.ql_exec.specs.declared.effect.Effect.{Effect}
-use Rattle.ql_needs.specs.Closed.{Closed, Has}
-use Rattle.ql_needs.specs.Needs.{Needs}
-use Rattle.ql_needs.proofs.ClosedLaws.{closed-along, reached-more}
+use Rattle.ql_holder.specs.Closed.{Closed, Has}
+use Rattle.ql_holder.specs.Needs.{Needs}
+use Rattle.ql_holder.proofs.ClosedLaws.{closed-along, reached-more}
 use Rattle.ql_machine.specs.declared.open_txn.OpenTxn.{OpenTxn}
 use Rattle.ql_machine.specs.State.{NeedsNow}
-use Rattle.ql_machine_laws.specs.Kept.{AreDone, IsDone}
+use Rattle.ql_machine.specs.Kept.{AreDone, IsDone}
 
 -- what is needed now is needed where every transaction is committed
 need-later : (x : List Effect) (o : List OpenTxn) (a b : ℕ) → NeedsNow x o a b → Needs x a b

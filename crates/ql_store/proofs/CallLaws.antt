@@ -13,8 +13,8 @@ use Rattle.ql_exec.specs.Execution.{IsExecution, IsOn, effect_of, next_id}
 use Rattle.ql_exec.specs.Folding.{seen_in_order}
 use Rattle.ql_levels.specs.declared.level.Level.{Level}
 use Rattle.ql_levels.specs.declared.level.Level.TheVariants.{Eventual, Causal, Wide, Strong}
-use Rattle.ql_needs.specs.Closed.{Has}
-use Rattle.ql_needs.specs.Needs.{JoinsNone}
+use Rattle.ql_holder.specs.Closed.{Has}
+use Rattle.ql_holder.specs.Needs.{JoinsNone}
 use Rattle.ql_holder.specs.Arrivals as held
 use Rattle.ql_machine.specs.declared.open_txn.OpenTxn.{OpenTxn}
 use Rattle.ql_machine.specs.declared.reply.Reply.TheVariants as reply
@@ -25,7 +25,7 @@ use Rattle.ql_machine.specs.Views.{Applied, InView, PlainScope, Scope}
 use Rattle.ql_machine.specs.Blocking.{IsMissing, MissingInTxn, MustSee, NoneMissingInTxn}
 use Rattle.ql_machine.specs.Changes.{draft_of, effect_made, package_to_others, received_by}
 use Rattle.ql_machine.specs.Calls.{HasNoneOpen, IsCall, MayAnswer, MayCall, after_plain, blocked, makes}
-use Rattle.ql_machine_laws.specs.Kept.{Keeps}
+use Rattle.ql_machine.specs.Kept.{Keeps}
 use Rattle.ql_exec.specs.Effects.{in_run}
 use Rattle.ql_exec.specs.Relations.{inside, vis}
 use Rattle.ql_exec.proofs.Finding.{effect_at-within}
@@ -36,12 +36,12 @@ use Rattle.ql_machine.specs.declared.reply.Reply.{Reply}
 use Rattle.ql_machine.specs.Steps.{IsStep}
 use Rattle.ql_machine.specs.Rules.{Promises}
 use Rattle.ql_machine.specs.Blocking.{IsOf}
-use Rattle.ql_machine_laws.proofs.Pushed.{at-longer, inside-cases, inside-found, inside-longer, vis-cases, vis-longer}
+use Rattle.ql_machine.proofs.Pushed.{at-longer, inside-cases, inside-found, inside-longer, vis-cases, vis-longer}
 use Rattle.ql_shim.specs.Viewing.{IsKnown}
-use Rattle.ql_machine_laws.proofs.Alone.{applied-same}
-use Rattle.ql_machine_laws.proofs.Answering.{made}
-use Rattle.ql_machine_laws.proofs.Past.{past-wider}
-use Rattle.ql_machine_laws.proofs.StoredLaws.{joins-none}
+use Rattle.ql_machine.proofs.Alone.{applied-same}
+use Rattle.ql_machine.proofs.Answering.{made}
+use Rattle.ql_machine.proofs.Past.{past-wider}
+use Rattle.ql_machine.proofs.StoredLaws.{joins-none}
 use Rattle.ql_net.specs.Network.{Network}
 use Rattle.ql_shim.specs.Transactions.{Transactions}
 use Rattle.ql_store.specs.State.{machine_of}

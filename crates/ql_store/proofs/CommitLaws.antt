@@ -10,8 +10,8 @@ use Rattle.ql_base.specs.declared.ids.SessId.{SessId}
 use Rattle.ql_exec.specs.declared.effect.Effect.{Effect}
 use Rattle.ql_exec.specs.Relations.{inside, sametxn}
 use Rattle.ql_exec.proofs.Finding.{effect_at-within}
-use Rattle.ql_needs.specs.Closed.{Has}
-use Rattle.ql_needs.specs.Needs.{IsPackage}
+use Rattle.ql_holder.specs.Closed.{Has}
+use Rattle.ql_holder.specs.Needs.{IsPackage}
 use Rattle.ql_machine.specs.declared.event.Event.TheVariants as event
 use Rattle.ql_machine.specs.declared.message.Message.{Message}
 use Rattle.ql_machine.specs.declared.open_txn.OpenTxn.{OpenTxn}
@@ -21,10 +21,10 @@ use Rattle.ql_machine.specs.Rules.{Promises, Rules}
 use Rattle.ql_machine.specs.Sets.{AreThose}
 use Rattle.ql_machine.specs.State.{Machine, open_of, received_at}
 use Rattle.ql_machine.specs.Steps.{IsStep, after_commit, commits}
-use Rattle.ql_machine_laws.specs.Kept.{Keeps}
-use Rattle.ql_machine_laws.proofs.Lists.{without-cases}
-use Rattle.ql_machine_laws.proofs.Pushed.{inside-found, undone}
-use Rattle.ql_machine_laws.proofs.TxnLaws.{inside-along, together}
+use Rattle.ql_machine.specs.Kept.{Keeps}
+use Rattle.ql_machine.proofs.Lists.{without-cases}
+use Rattle.ql_machine.proofs.Pushed.{inside-found, undone}
+use Rattle.ql_machine.proofs.TxnLaws.{inside-along, together}
 use Rattle.ql_net.specs.Network.{Network}
 use Rattle.ql_shim.specs.Changed.{IsFinished}
 use Rattle.ql_shim.specs.Transactions.{Transactions, open_txns}

@@ -8,9 +8,9 @@ use Rattle.ql_base.proofs.IdLemmas.{IsAscending-with_id}
 use Rattle.ql_exec.specs.declared.effect.Effect.{Effect}
 use Rattle.ql_exec.specs.Effects.{effect_at, one}
 use Rattle.ql_exec.proofs.Finding.{take_one_more, cases_pushed, effect_at-last}
-use Rattle.ql_needs.proofs.IdSets.{has_id-with}
+use Rattle.ql_holder.proofs.IdSets.{has_id-with}
 use Rattle.ql_machine.specs.Sets.{AreThose}
-use Rattle.ql_machine_laws.proofs.Pushed.{one-found, one-longer}
+use Rattle.ql_machine.proofs.Pushed.{one-found, one-longer}
 
 -- the effects that pass, in ascending order
 abbrev pub ArePassing : List Effect → (Effect → Bool) → List ℕ → Type 0

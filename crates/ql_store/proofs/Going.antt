@@ -21,8 +21,8 @@ use Rattle.ql_machine.specs.Steps.{IsStep, absent, already_open, begins, begun_t
 use Rattle.ql_machine.specs.Runs.{replicas_after}
 use Rattle.ql_store.specs.Events.{IsInRange}
 use Rattle.ql_store.specs.State.{AreAmongOps, AreDeclared, GoWithin}
-use Rattle.ql_machine_laws.proofs.Keeping.{nothing-there}
-use Rattle.ql_machine_laws.proofs.Lists.{open-cases, without-cases}
+use Rattle.ql_machine.proofs.Keeping.{nothing-there}
+use Rattle.ql_machine.proofs.Lists.{open-cases, without-cases}
 use Rattle.ql_store.proofs.Messages.{within-more, within-one, within-others, within-package, within-recounted}
 
 pub record Goes (n : ℕ) (levels : LevelLists) (t : Machine) : Type 0 where

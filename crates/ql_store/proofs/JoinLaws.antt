@@ -17,10 +17,10 @@ use Rattle.ql_exec.proofs.Finding.{both-found, effect_at-within}
 use Rattle.ql_levels.specs.declared.level.Level.{Level}
 use Rattle.ql_levels.specs.Lists.{LevelLists}
 use Rattle.ql_levels.specs.declared.level.Level.TheVariants.{Eventual, Causal, Wide, Strong}
-use Rattle.ql_needs.specs.Closed.{Has}
-use Rattle.ql_needs.specs.Needs.{AreWhole, IsNeeded}
-use Rattle.ql_needs.proofs.ClosedLaws.{closed-member}
-use Rattle.ql_needs.proofs.NeedsLaws.{at-first}
+use Rattle.ql_holder.specs.Closed.{Has}
+use Rattle.ql_holder.specs.Needs.{AreWhole, IsNeeded}
+use Rattle.ql_holder.proofs.ClosedLaws.{closed-member}
+use Rattle.ql_holder.proofs.NeedsLaws.{at-first}
 use Rattle.ql_machine.specs.declared.event.Event.TheVariants as event
 use Rattle.ql_machine.specs.declared.reply.Reply.{Reply}
 use Rattle.ql_machine.specs.declared.reply.Reply.TheVariants as reply
@@ -29,9 +29,9 @@ use Rattle.ql_machine.specs.Rules.{Rules}
 use Rattle.ql_machine.specs.Sets.{AreThose}
 use Rattle.ql_machine.specs.State.{Machine, NeedsNow, group_at, received_at, replicas}
 use Rattle.ql_machine.specs.Steps.{IsOfStrong, IsStep, IsUnderStrong, joins_bare, joins_copy}
-use Rattle.ql_machine_laws.specs.Kept.{IsDone, Keeps}
-use Rattle.ql_machine_laws.proofs.Alone.{reaches-same}
-use Rattle.ql_machine_laws.proofs.Pushed.{one-found}
+use Rattle.ql_machine.specs.Kept.{IsDone, Keeps}
+use Rattle.ql_machine.proofs.Alone.{reaches-same}
+use Rattle.ql_machine.proofs.Pushed.{one-found}
 use Rattle.ql_net.specs.Network.{Network}
 use Rattle.ql_shim.specs.Transactions.{Transactions}
 use Rattle.ql_store.specs.Joining.{AreAlone, IsNeededByStrong, is_strong}

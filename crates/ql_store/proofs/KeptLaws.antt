@@ -17,8 +17,8 @@ use Rattle.ql_machine.specs.State.{Machine, empty, open_of}
 use Rattle.ql_machine.specs.Rules.{Promises, Rules}
 use Rattle.ql_machine.specs.Steps.{IsStep}
 use Rattle.ql_machine.specs.Runs.{replicas_after}
-use Rattle.ql_machine_laws.specs.Kept.{Keeps}
-use Rattle.ql_machine_laws.proofs.Keeping.{keeps-empty, keeps-step, nothing-there}
+use Rattle.ql_machine.specs.Kept.{Keeps}
+use Rattle.ql_machine.proofs.Keeping.{keeps-empty, keeps-step, nothing-there}
 use Rattle.ql_session.specs.declared.note.Note.{Note}
 use Rattle.ql_session.specs.Executions.{notes_of}
 use Rattle.ql_shim.specs.Transactions.{own_of, saw_of}

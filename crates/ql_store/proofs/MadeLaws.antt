@@ -11,7 +11,7 @@ use Rattle.ql_exec.specs.Effects.{both, effect_at}
 use Rattle.ql_exec.specs.Execution.{effect_of, next_id}
 use Rattle.ql_exec.specs.Relations.{same_run}
 use Rattle.ql_exec.proofs.Finding.{effect_at-last}
-use Rattle.ql_needs.specs.Needs.{AreThere, IsPackage}
+use Rattle.ql_holder.specs.Needs.{AreThere, IsPackage}
 use Rattle.ql_machine.specs.State.{received_at}
 
 -- what holds of each holder's list and of no ids holds of each list

@@ -14,8 +14,8 @@ use Rattle.ql_exec.specs.Effects.{effect_at}
 use Rattle.ql_exec.specs.Execution.{IsOn, effect_of, next_id}
 use Rattle.ql_exec.proofs.Finding.{effect_at-last, effect_at-within}
 use Rattle.ql_levels.specs.declared.level.Level.TheVariants.{Causal, Wide}
-use Rattle.ql_needs.specs.Closed.{Has}
-use Rattle.ql_needs.specs.Needs.{AreThere}
+use Rattle.ql_holder.specs.Closed.{Has}
+use Rattle.ql_holder.specs.Needs.{AreThere}
 use Rattle.ql_machine.specs.Blocking.{IsOf}
 use Rattle.ql_machine.specs.Sets.{AreThose}
 use Rattle.ql_session.specs.declared.note.Note.{Note}

@@ -20,9 +20,9 @@ use Rattle.ql_levels.specs.declared.level.Level.TheVariants.{Strong}
 use Rattle.ql_levels.specs.declared.level.TxnLevel.{TxnLevel}
 use Rattle.ql_levels.specs.declared.level.TxnLevel.TheVariants.{Rc, Mav, Rr}
 use Rattle.ql_levels.specs.Lists.{LevelLists}
-use Rattle.ql_needs.specs.Closed.{Has, Reaches, here, through}
-use Rattle.ql_needs.specs.Needs.{JoinsNone}
-use Rattle.ql_needs.proofs.IdSets.{has_id-with, in_union-cases, in_union-left, in_union-right}
+use Rattle.ql_holder.specs.Closed.{Has, Reaches, here, through}
+use Rattle.ql_holder.specs.Needs.{JoinsNone}
+use Rattle.ql_holder.proofs.IdSets.{has_id-with, in_union-cases, in_union-left, in_union-right}
 use Rattle.ql_machine.specs.declared.open_txn.OpenTxn.{OpenTxn}
 use Rattle.ql_machine.specs.declared.reply.Reply.{Reply}
 use Rattle.ql_machine.specs.declared.reply.Reply.TheVariants as reply
@@ -35,10 +35,10 @@ use Rattle.ql_machine.specs.Rules.{Call, Promises, Rules}
 use Rattle.ql_machine.specs.Sets.{AreThose, IsLeast}
 use Rattle.ql_machine.specs.State.{Machine, NeedsNow, open_of, received_at}
 use Rattle.ql_machine.specs.Views.{InView, Scope, TxnScope}
-use Rattle.ql_machine_laws.specs.Kept.{History, IsDone, Keeps, TxnsKept}
-use Rattle.ql_machine_laws.proofs.Answering.{made}
-use Rattle.ql_machine_laws.proofs.Pushed.{at-longer, inside-cases, inside-found, inside-from, inside-longer, same_session, seen-found, vis-cases, vis-longer, vis-new}
-use Rattle.ql_machine_laws.proofs.StoredLaws.{joins-none}
+use Rattle.ql_machine.specs.Kept.{History, IsDone, Keeps, TxnsKept}
+use Rattle.ql_machine.proofs.Answering.{made}
+use Rattle.ql_machine.proofs.Pushed.{at-longer, inside-cases, inside-found, inside-from, inside-longer, same_session, seen-found, vis-cases, vis-longer, vis-new}
+use Rattle.ql_machine.proofs.StoredLaws.{joins-none}
 use Rattle.ql_net.specs.Network.{Network}
 use Rattle.ql_session.specs.declared.note.Note.{Note}
 use Rattle.ql_shim.specs.Changed.{IsNoted}

@@ -10,10 +10,10 @@ use Rattle.ql_base.specs.declared.ids.EffId.{EffId}
 use Rattle.ql_base.specs.declared.ids.ReplicaId.{ReplicaId}
 use Rattle.ql_base.specs.declared.no_memory.NoMemory.{NoMemory}
 use Rattle.ql_exec.specs.declared.effect.Effect.{Effect}
-use Rattle.ql_needs.specs.Closed.{Has}
-use Rattle.ql_needs.specs.Needs.{IsPackage}
-use Rattle.ql_needs.proofs.IdSets.{in_union-cases}
-use Rattle.ql_needs.proofs.Packages.{package-member}
+use Rattle.ql_holder.specs.Closed.{Has}
+use Rattle.ql_holder.specs.Needs.{IsPackage}
+use Rattle.ql_holder.proofs.IdSets.{in_union-cases}
+use Rattle.ql_holder.proofs.Packages.{package-member}
 use Rattle.ql_holder.specs.declared.arrival.Arrival.{Arrival}
 use Rattle.ql_holder.specs.declared.arrival.Arrival.TheVariants.{Again, Waits, Applies}
 use Rattle.ql_holder.specs.Arrivals as held
@@ -28,9 +28,9 @@ use Rattle.ql_machine.specs.Rules.{Promises}
 use Rattle.ql_machine.specs.Changes.{IsInFlight, received_by, spent}
 use Rattle.ql_machine.specs.Deliveries as delivery
 use Rattle.ql_machine.specs.Deliveries.{IsDelivery, IsInOneGroup, after_copy, after_receipt, again, waits, applies}
-use Rattle.ql_machine_laws.specs.Kept.{AreDone, Keeps}
-use Rattle.ql_machine_laws.proofs.Lists.{each-at, get_or-set-there}
-use Rattle.ql_machine_laws.proofs.Alone.{carried-parcel, reaches-same}
+use Rattle.ql_machine.specs.Kept.{AreDone, Keeps}
+use Rattle.ql_machine.proofs.Lists.{each-at, get_or-set-there}
+use Rattle.ql_machine.proofs.Alone.{carried-parcel, reaches-same}
 use Rattle.ql_net.specs.declared.flight.Flight.TheVariants.{Ready}
 use Rattle.ql_net.specs.Flights.{IsFlight}
 use Rattle.ql_net.specs.Network.{IsSpent, Network}

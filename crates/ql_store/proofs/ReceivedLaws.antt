@@ -4,8 +4,8 @@ use Rattle.std.proofs.lemmas.Bool.{or_cases, or_left, or_right, eqb-true, eq-eqb
 use Rattle.ql_base.specs.IdLists.{IsAscending, has_id, with_id}
 use Rattle.ql_base.proofs.IdLemmas.{IsAscending-with_id}
 use Rattle.ql_machine.specs.Sets.{AreThose}
-use Rattle.ql_needs.specs.Closed.{Has}
-use Rattle.ql_needs.proofs.IdSets.{has_id-with, same_ids}
+use Rattle.ql_holder.specs.Closed.{Has}
+use Rattle.ql_holder.proofs.IdSets.{has_id-with, same_ids}
 use Rattle.ql_store.specs.Received.{IsReceivedOf}
 
 pub none-yet : (received : List ℕ) → AreThose (IsReceivedOf received 0) []

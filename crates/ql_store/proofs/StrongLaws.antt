@@ -23,10 +23,10 @@ use Rattle.ql_base.specs.declared.ids.ObjId.{ObjId}
 use Rattle.ql_store.proofs.NoteSets.{on-those}
 use Rattle.ql_levels.specs.declared.level.Level.{Level}
 use Rattle.ql_levels.specs.declared.level.Level.TheVariants.{Strong}
-use Rattle.ql_needs.specs.Closed.{Has}
-use Rattle.ql_needs.specs.Needs.{AreWhole, IsPackage, JoinsNone}
-use Rattle.ql_needs.proofs.Packages.{whole-union}
-use Rattle.ql_needs.proofs.IdSets.{has_id-union, has_id-with}
+use Rattle.ql_holder.specs.Closed.{Has}
+use Rattle.ql_holder.specs.Needs.{AreWhole, IsPackage, JoinsNone}
+use Rattle.ql_holder.proofs.Packages.{whole-union}
+use Rattle.ql_holder.proofs.IdSets.{has_id-union, has_id-with}
 use Rattle.ql_machine.specs.declared.open_txn.OpenTxn.{OpenTxn}
 use Rattle.ql_machine.specs.declared.reply.Reply.{Reply}
 use Rattle.ql_machine.specs.declared.reply.Reply.TheVariants as reply
@@ -38,11 +38,11 @@ use Rattle.ql_machine.specs.Views.{InView, PlainScope, Scope}
 use Rattle.ql_machine.specs.Blocking.{MustSee, NoneMissingInTxn}
 use Rattle.ql_machine.specs.Changes.{draft_of, effect_made, received_by_all}
 use Rattle.ql_machine.specs.Calls.{HasNoneOpen, IsAllowed, IsCall, MayAnswer, MayCall, after_strong, held, makes_strong, unavailable}
-use Rattle.ql_machine_laws.specs.Kept.{Keeps}
-use Rattle.ql_machine_laws.proofs.Answering.{made}
-use Rattle.ql_machine_laws.proofs.Keeping.{done-there}
-use Rattle.ql_machine_laws.proofs.Pushed.{unsplit}
-use Rattle.ql_machine_laws.proofs.StoredLaws.{joins-none}
+use Rattle.ql_machine.specs.Kept.{Keeps}
+use Rattle.ql_machine.proofs.Answering.{made}
+use Rattle.ql_machine.proofs.Keeping.{done-there}
+use Rattle.ql_machine.proofs.Pushed.{unsplit}
+use Rattle.ql_machine.proofs.StoredLaws.{joins-none}
 use Rattle.ql_net.specs.Network.{Network}
 use Rattle.ql_shim.specs.Transactions.{Transactions}
 use Rattle.ql_strong.proofs.SyncLaws.{received-twice}

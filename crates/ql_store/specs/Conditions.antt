@@ -9,7 +9,7 @@ use Rattle.ql_machine.specs.declared.event.Event.{Event}
 use Rattle.ql_machine.specs.declared.event.Event.TheVariants.{Call}
 use Rattle.ql_machine.specs.declared.message.Message.{Message}
 use Rattle.ql_machine.specs.State.{Machine, message_at}
-use Rattle.ql_needs.specs.Closed.{Has}
+use Rattle.ql_holder.specs.Closed.{Has}
 use Rattle.ql_value.specs.declared.value.Value.{Value}
 
 -- 32 bits can number what one event adds: an effect, a message to each replica, a begun transaction, a copy of a message

@@ -7,8 +7,8 @@ use Rattle.ql_exec.specs.Effects.{effect_at}
 use Rattle.ql_levels.specs.declared.level.Level.{Level}
 use Rattle.ql_levels.specs.declared.level.Level.TheVariants.{Strong}
 use Rattle.ql_machine.specs.Steps.{IsOfStrong}
-use Rattle.ql_needs.specs.Closed.{Reaches}
-use Rattle.ql_needs.specs.Needs.{Needs}
+use Rattle.ql_holder.specs.Closed.{Reaches}
+use Rattle.ql_holder.specs.Needs.{Needs}
 
 abbrev pub is_strong : Level → Bool
 is_strong Strong = true

@@ -2,7 +2,7 @@
 use Rattle.std.specs.Prelude.{◌≡◌, ℕ, false, List}
 use Rattle.ql_base.specs.IdLists.{has_id}
 use Rattle.ql_exec.specs.declared.effect.Effect.{Effect}
-use Rattle.ql_needs.specs.Closed.{Has}
+use Rattle.ql_holder.specs.Closed.{Has}
 use Rattle.ql_holder.specs.declared.arrival.Arrival.{Arrival}
 use Rattle.ql_holder.specs.declared.arrival.Arrival.TheVariants.{Again, Waits, Applies}
 use Rattle.ql_holder.specs.Arrivals.{Applied, IsGain, IsLeastMissing}

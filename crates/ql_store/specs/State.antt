@@ -7,7 +7,7 @@ use Rattle.ql_levels.specs.Lists.{LevelLists}
 use Rattle.ql_machine.specs.declared.message.Message.{Message}
 use Rattle.ql_machine.specs.declared.open_txn.OpenTxn.{OpenTxn}
 use Rattle.ql_machine.specs.State.{Machine, open_of}
-use Rattle.ql_machine_laws.specs.Kept.{Keeps}
+use Rattle.ql_machine.specs.Kept.{Keeps}
 use Rattle.ql_net.specs.Network.{Network}
 use Rattle.ql_session.specs.declared.note.Note.{Note}
 use Rattle.ql_session.specs.Executions.{notes_of}

@@ -10,7 +10,7 @@ use Rattle.ql_exec.specs.Effects.{effect_at}
 use Rattle.ql_exec.specs.Execution.{IsOn}
 use Rattle.ql_levels.specs.declared.level.Level.{Level}
 use Rattle.ql_levels.specs.declared.level.Level.TheVariants.{Eventual, Causal, Wide, Strong}
-use Rattle.ql_needs.specs.Closed.{Has}
+use Rattle.ql_holder.specs.Closed.{Has}
 use Rattle.ql_machine.specs.Blocking.{InPast, IsOf}
 use Rattle.ql_machine.specs.Sets.{IsLeast}
 use Rattle.ql_machine.specs.State.{Machine}

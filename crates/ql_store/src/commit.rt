@@ -1,7 +1,7 @@
 ghost use Rattle.std.specs.Prelude.{◌≡◌, ◌<◌, ◌+◌, ◌^◌, ◌++◌, ℕ, All, false, length, map, IfOk, OnOk, OnErr};
 ghost use Rattle.ql_base.specs.IdLists.{has_id};
-ghost use Rattle.ql_needs.specs.Closed.{Has};
-ghost use Rattle.ql_needs.specs.Needs.{IsPackage};
+ghost use Rattle.ql_holder.specs.Closed.{Has};
+ghost use Rattle.ql_holder.specs.Needs.{IsPackage};
 ghost use Rattle.ql_machine.specs.declared.event.Event.TheVariants as event;
 ghost use Rattle.ql_machine.specs.Changes.{package_to_others, received_by};
 ghost use Rattle.ql_machine.specs.Rules.{Rules};

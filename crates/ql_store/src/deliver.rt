@@ -2,7 +2,7 @@ ghost use Rattle.std.specs.Prelude.{◌≡◌, ℕ, All, length, map, IfOk, OnEr
 ghost use Rattle.ql_shim.specs.Transactions.{Transactions};
 ghost use Rattle.ql_machine.specs.Deliveries.{IsDelivery};
 ghost use Rattle.ql_machine.specs.Rules.{Promises};
-ghost use Rattle.ql_machine_laws.specs.Kept.{Keeps, IsWhole};
+ghost use Rattle.ql_machine.specs.Kept.{Keeps, IsWhole};
 ghost use Rattle.ql_store.specs.Receipts.{reply_of};
 ghost use Rattle.ql_store.specs.State.{GoWithin, machine_of};
 

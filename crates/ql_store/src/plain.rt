@@ -3,7 +3,7 @@ ghost use Rattle.ql_exec.specs.declared.effect.Effect.{Effect};
 ghost use Rattle.ql_exec.specs.declared.effect.Member.TheVariants.{Alone};
 ghost use Rattle.ql_exec.specs.Execution.{IsExecution, effect_of, next_id};
 ghost use Rattle.ql_base.specs.IdLists.{has_id};
-ghost use Rattle.ql_needs.specs.Needs.{IsPackage, JoinsNone};
+ghost use Rattle.ql_holder.specs.Needs.{IsPackage, JoinsNone};
 ghost use Rattle.ql_machine.specs.State.{received_at};
 ghost use Rattle.ql_machine.specs.declared.reply.Reply.TheVariants as reply;
 ghost use Rattle.ql_machine.specs.Changes.{package_to_others, received_by};

@@ -1,6 +1,6 @@
 ghost use Rattle.std.specs.Prelude.{◌≡◌, ◌<◌, List, All, length, map, IfOk, OnErr};
 ghost use Rattle.ql_exec.specs.declared.effect.Effect.{Effect};
-ghost use Rattle.ql_needs.specs.Needs.{IsPackage};
+ghost use Rattle.ql_holder.specs.Needs.{IsPackage};
 ghost use Rattle.ql_store.specs.Receipts.{IsReceipt};
 
 use ql_base::{IdSet, NoMemory, ReplicaId};

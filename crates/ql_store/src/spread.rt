@@ -1,8 +1,8 @@
 ghost use Rattle.std.specs.Prelude.{◌≡◌, ◌<◌, ◌+◌, ◌^◌, ◌++◌, ℕ, List, All, false, length, map, OnOk, OnErr};
 ghost use Rattle.ql_base.specs.IdLists.{has_id};
 ghost use Rattle.ql_exec.specs.declared.effect.Effect.{Effect};
-ghost use Rattle.ql_needs.specs.Closed.{Has};
-ghost use Rattle.ql_needs.specs.Needs.{IsPackage};
+ghost use Rattle.ql_holder.specs.Closed.{Has};
+ghost use Rattle.ql_holder.specs.Needs.{IsPackage};
 ghost use Rattle.ql_machine.specs.Changes.{package_to_others, received_by};
 ghost use Rattle.ql_machine.specs.State.{received_at};
 

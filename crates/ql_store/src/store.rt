@@ -3,7 +3,7 @@ ghost use Rattle.ql_exec.specs.Effects.{effect_at};
 ghost use Rattle.ql_exec.specs.Execution.{IsOn};
 ghost use Rattle.ql_exec.specs.Folding.{seen_in_order};
 ghost use Rattle.ql_levels.specs.declared.level.Level.TheVariants.{Strong};
-ghost use Rattle.ql_needs.specs.Closed.{Has};
+ghost use Rattle.ql_holder.specs.Closed.{Has};
 ghost use Rattle.ql_store.specs.Asking.{call_of};
 ghost use Rattle.ql_store.specs.Answering.{IsAttempt};
 ghost use Rattle.ql_store.specs.Conditions.{HasRoom, IsAnswerable};

@@ -3,10 +3,10 @@ use Rattle.std.proofs.Common.{ℕ, List, [], refl, inl, inr}
 use Rattle.std.proofs.lemmas.Bool.{false≢true}
 use Rattle.ql_base.specs.IdLists.{IsAscending}
 use Rattle.ql_exec.specs.declared.effect.Effect.{Effect}
-use Rattle.ql_needs.specs.Closed.{Has, Reaches, here, through}
-use Rattle.ql_needs.specs.Needs.{AreWhole, IsNeeded, Needs}
+use Rattle.ql_holder.specs.Closed.{Has, Reaches, here, through}
+use Rattle.ql_holder.specs.Needs.{AreWhole, IsNeeded, Needs}
 use Rattle.ql_machine.specs.Sets.{AreThose}
-use Rattle.ql_reach.specs.Reach.{InEither, IsReach}
+use Rattle.ql_ranges.specs.Reach.{InEither, IsReach}
 
 found-from : (found : List ℕ) (a : ℕ) → InEither [] found a → Has found a
 found-from found a (inl never) = absurd (false≢true never)

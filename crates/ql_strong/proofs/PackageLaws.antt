@@ -11,7 +11,7 @@ use Rattle.ql_exec.specs.declared.effect.Member.TheVariants.{Alone, Inside}
 use Rattle.ql_exec.specs.Effects.{effect_at, one, both, in_run}
 use Rattle.ql_exec.specs.Relations.{inside, sametxn, same_run}
 use Rattle.ql_exec.proofs.Finding.{both-found, take_one_more, cases_pushed, effect_at-append, effect_at-last, effect_at-within, in_run-along, same_run-of}
-use Rattle.ql_needs.proofs.IdSets.{has_id-with}
+use Rattle.ql_holder.proofs.IdSets.{has_id-with}
 use Rattle.ql_machine.specs.Sets.{AreThose}
 
 -- these are the members of a transaction, in ascending order

@@ -6,11 +6,11 @@ use Rattle.ql_base.specs.IdLists.{IsAscending, has_id, union_of}
 use Rattle.ql_base.proofs.IdLemmas.{IsAscending-union}
 use Rattle.ql_exec.specs.declared.effect.Effect.{Effect}
 use Rattle.ql_exec.specs.Relations.{sametxn}
-use Rattle.ql_needs.specs.Closed.{Has}
-use Rattle.ql_needs.specs.Needs.{AreWhole, IsPackage}
-use Rattle.ql_needs.proofs.IdSets.{in_union-left, in_union-right, in_union-cases, same_ids}
-use Rattle.ql_needs.proofs.Members.{has_id-index, index-has}
-use Rattle.ql_needs.proofs.Packages.{sametxn-itself}
+use Rattle.ql_holder.specs.Closed.{Has}
+use Rattle.ql_holder.specs.Needs.{AreWhole, IsPackage}
+use Rattle.ql_holder.proofs.IdSets.{in_union-left, in_union-right, in_union-cases, same_ids}
+use Rattle.ql_holder.proofs.Members.{has_id-index, index-has}
+use Rattle.ql_holder.proofs.Packages.{sametxn-itself}
 use Rattle.ql_holder.specs.declared.arrival.Arrival.{Arrival}
 use Rattle.ql_holder.specs.declared.arrival.Arrival.TheVariants.{Again, Waits, Applies}
 use Rattle.ql_holder.specs.Arrivals.{IsArrival}

@@ -3,7 +3,7 @@ use Rattle.std.specs.Prelude.{◌≡◌, ◌⊎◌, ◌<◌, ℕ, true, List, sl
 use Rattle.ql_base.specs.IdLists.{IsAscending}
 use Rattle.ql_exec.specs.declared.effect.Effect.{Effect}
 use Rattle.ql_exec.specs.Relations.{sametxn}
-use Rattle.ql_needs.specs.Closed.{Has}
+use Rattle.ql_holder.specs.Closed.{Has}
 
 -- these are among others
 abbrev pub AreAmong : List ℕ → List ℕ → Type 0

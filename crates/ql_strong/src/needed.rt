@@ -1,13 +1,12 @@
 ghost use Rattle.std.specs.Prelude.{IfOk};
 ghost use Rattle.ql_machine.specs.Sets.{AreThose};
-ghost use Rattle.ql_needs.specs.Needs.{AreWhole, IsNeeded};
+ghost use Rattle.ql_holder.specs.Needs.{AreWhole, IsNeeded};
 
 use crate::synced::made_whole;
 use ql_base::{IdSet, NoMemory};
 use ql_exec::Execution;
 use ql_holder::Holder;
-use ql_ranges::Ranges;
-use ql_reach::reach;
+use ql_ranges::{Ranges, reach};
 use std::alloc::Global;
 
 /// A holder that has received exactly some effects and all that they need, directly or through others.

@@ -1,6 +1,6 @@
 ghost use Rattle.std.specs.Prelude.{◌≡◌, ◌<◌, ◌≤◌, All, length, map, replicate, IfOk, OnOk};
 ghost use Rattle.ql_base.specs.IdLists.{IsAscending};
-ghost use Rattle.ql_needs.specs.Needs.{AreWhole};
+ghost use Rattle.ql_holder.specs.Needs.{AreWhole};
 ghost use Rattle.ql_machine.specs.Changes.{received_by_all};
 ghost use Rattle.ql_strong.specs.Within.{AreAmong, HasReceived};
 

@@ -8,3 +8,4 @@ pub mod Places
 pub mod Spelling
 pub mod Reading
 pub mod ValueGrammar
+pub mod ValuePrefixes

@@ -19,8 +19,8 @@ use Rattle.ql_machine.specs.Steps.{IsStep, calls, already_open, begins, none_ope
 use Rattle.ql_schedule.specs.Guarantees.{IsSchedule}
 use Rattle.ql_schedule.specs.declared.schedule.Schedule.{Schedule}
 use Rattle.ql_store.specs.Levels.{HasLevelOfEach, promises_of, uses_of}
-use Rattle.ql_machine_laws.proofs.Alone.{held-whole}
-use Rattle.ql_machine_laws.proofs.Runs.{kept}
+use Rattle.ql_machine.proofs.Alone.{held-whole}
+use Rattle.ql_machine.proofs.Runs.{kept}
 use Rattle.ql_machine.specs.Runs.{IsRun, stop}
 use Rattle.ql_store.specs.Conditions.{HasRoom, IsAnswerable}
 use Rattle.ql_store.specs.Events.{IsInRange}

@@ -1,6 +1,6 @@
 use Rattle.std.proofs.Common.{◌≡◌, ◌≤◌}
 use Rattle.ql_atoms.specs.declared.atoms.PairKind.TheVariants.{Hb}
-use Rattle.ql_blocks.specs.Blocks.{count_below}
+use Rattle.ql_counter.specs.Blocks.{count_below}
 use Rattle.ql_counter.specs.Coded.{said}
 use Rattle.ql_counter.proofs.blocks.count_before.Given as goal
 

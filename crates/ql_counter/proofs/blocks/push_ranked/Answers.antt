@@ -1,4 +1,4 @@
-use Rattle.ql_blocks.specs.Blocks.{ranked_slots}
+use Rattle.ql_counter.specs.Blocks.{ranked_slots}
 use Rattle.ql_counter.specs.Coded.{said}
 use Rattle.ql_counter.proofs.Growing.{parts_more}
 use Rattle.ql_counter.proofs.blocks.push_ranked.Goals as goal

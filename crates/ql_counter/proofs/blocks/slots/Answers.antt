@@ -1,8 +1,8 @@
 use Rattle.std.proofs.Common.{ap, arith, length}
 use Rattle.ql_base.specs.Ranges.{upto}
-use Rattle.ql_blocks.specs.Blocks.{ranked_slots}
+use Rattle.ql_counter.specs.Blocks.{ranked_slots}
 use Rattle.ql_counter.specs.Coded.{said}
-use Rattle.ql_blocks.proofs.Arranging.{slots-short}
+use Rattle.ql_counter.proofs.Arranging.{slots-short}
 use Rattle.ql_counter.proofs.Growing.{upto_more}
 use Rattle.ql_counter.proofs.Made.{slots-done, blocks-within}
 use Rattle.ql_counter.proofs.blocks.slots.Goals as goal

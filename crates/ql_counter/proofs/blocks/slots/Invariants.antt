@@ -1,6 +1,6 @@
 use Rattle.std.proofs.Common.{◌≡◌}
 use Rattle.ql_base.specs.Ranges.{upto}
-use Rattle.ql_blocks.specs.Blocks.{ranked_slots}
+use Rattle.ql_counter.specs.Blocks.{ranked_slots}
 use Rattle.ql_counter.specs.Coded.{said}
 use Rattle.ql_counter.proofs.blocks.slots.Given as goal
 

@@ -1,6 +1,6 @@
 use Rattle.std.proofs.Common.{length, ◌+◌, ap, ◌∙◌}
 use Rattle.ql_lang.specs.Formulas.{resolved_of}
-use Rattle.ql_blocks.specs.Blocks.{slots_of}
+use Rattle.ql_counter.specs.Blocks.{slots_of}
 use Rattle.ql_counter.specs.Assigned.{alone, pattern_of}
 use Rattle.ql_counter.proofs.Joined.{op-lawful, size}
 use Rattle.ql_counter.proofs.construction.of_operation.Goals as goal

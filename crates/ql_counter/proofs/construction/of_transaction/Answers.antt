@@ -1,8 +1,8 @@
 use Rattle.std.proofs.Common.{length, suc, ◌+◌, ap, ◌∙◌, arith}
 use Rattle.ql_lang.specs.Formulas.{resolved_of}
 use Rattle.ql_atoms.specs.declared.atoms.PairKind.TheVariants.{SameTxn}
-use Rattle.ql_blocks.specs.Patterns.{class_of}
-use Rattle.ql_blocks.specs.Built.{built}
+use Rattle.ql_counter.specs.Patterns.{class_of}
+use Rattle.ql_counter.specs.Built.{built}
 use Rattle.ql_counter.specs.Assigned.{alone, begun, constant_places, pattern_of, related_by}
 use Rattle.ql_counter.proofs.Joined.{size, txn-lawful, txn-made}
 use Rattle.ql_counter.proofs.construction.of_transaction.Goals as goal

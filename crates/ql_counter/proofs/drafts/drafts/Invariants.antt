@@ -1,6 +1,6 @@
 use Rattle.std.proofs.Common.{◌≡◌, map, take}
 use Rattle.ql_atoms.specs.Atoms.{size_of}
-use Rattle.ql_blocks.specs.Built.{draft_of}
+use Rattle.ql_counter.specs.Built.{draft_of}
 use Rattle.ql_counter.specs.Assigned.{pattern_of}
 use Rattle.ql_counter.specs.Coded.{members_by}
 use Rattle.ql_counter.proofs.drafts.drafts.Given as goal

@@ -1,5 +1,5 @@
 use Rattle.std.proofs.Common.{arith}
-use Rattle.ql_blocks.specs.Built.{sees}
+use Rattle.ql_counter.specs.Built.{sees}
 use Rattle.ql_counter.specs.Coded.{said}
 use Rattle.ql_counter.proofs.Made.{seen-more}
 use Rattle.ql_counter.proofs.drafts.seen.Goals as goal

@@ -1,5 +1,5 @@
 use Rattle.std.proofs.Common.{◌≡◌, take}
-use Rattle.ql_blocks.specs.Built.{places_from, sees}
+use Rattle.ql_counter.specs.Built.{places_from, sees}
 use Rattle.ql_counter.specs.Coded.{said}
 use Rattle.ql_counter.proofs.drafts.seen.Given as goal
 

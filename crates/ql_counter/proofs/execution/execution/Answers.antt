@@ -1,5 +1,5 @@
 use Rattle.std.proofs.Common.{Err, ap, subst, sym, ◌∙◌, []}
-use Rattle.ql_blocks.specs.Built.{drafts_of}
+use Rattle.ql_counter.specs.Built.{drafts_of}
 use Rattle.ql_atoms.specs.Atoms.{size_of}
 use Rattle.ql_exec.specs.Execution.{IsMade, made_after}
 use Rattle.ql_exec.specs.declared.fault.ExecFault.{ExecFault}

@@ -1,7 +1,7 @@
 use Rattle.std.specs.List.{slice_index_or}
-use Rattle.ql_blocks.specs.Blocks.{slot_of}
-use Rattle.ql_blocks.specs.Built.{is_own}
-use Rattle.ql_blocks.specs.declared.slot.Part.TheVariants.{Own}
+use Rattle.ql_counter.specs.Blocks.{slot_of}
+use Rattle.ql_counter.specs.Built.{is_own}
+use Rattle.ql_counter.specs.declared.slot.Part.TheVariants.{Own}
 use Rattle.ql_counter.proofs.Loops.{NoneBelow}
 use Rattle.ql_counter.proofs.places.place.Given as goal
 

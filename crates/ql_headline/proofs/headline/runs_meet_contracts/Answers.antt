@@ -1,4 +1,4 @@
-use Rattle.ql_machine_laws.proofs.Growth.{answers-hold}
+use Rattle.ql_machine.proofs.Growth.{answers-hold}
 use Rattle.ql_headline.specs.Stores.{rules_of}
 use Rattle.ql_headline.proofs.AtLevels.{op-contract, run-fits, txn-contract}
 use Rattle.ql_headline.proofs.headline.runs_meet_contracts.Goals as goal

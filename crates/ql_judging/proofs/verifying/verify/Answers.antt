@@ -1,7 +1,7 @@
 use Rattle.std.proofs.Common.{◌≡◌, inl, inr, Some}
 use Rattle.std.proofs.lemmas.Result.{IfOk-weaker}
 use Rattle.ql_commands.proofs.SourceReplies.{bad_said}
-use Rattle.ql_execution_grammar.proofs.Trees.{spelled}
+use Rattle.ql_execution_files.proofs.Trees.{spelled}
 use Rattle.ql_lines.specs.Lines.{ahead_from}
 use Rattle.ql_reply.specs.declared.status.Status.TheVariants.{Bad}
 use Rattle.ql_reply.proofs.Replies.{replied}

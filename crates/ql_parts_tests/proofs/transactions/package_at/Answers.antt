@@ -1,5 +1,5 @@
-use Rattle.ql_needs.specs.Needs.{AreWhole, IsPackage}
-use Rattle.ql_needs.proofs.Packages.{package-whole}
+use Rattle.ql_holder.specs.Needs.{AreWhole, IsPackage}
+use Rattle.ql_holder.proofs.Packages.{package-whole}
 use Rattle.ql_shim.proofs.ViewLaws.{if_ok-more}
 use Rattle.ql_strong.proofs.SyncLaws.{package-of}
 use Rattle.ql_parts_tests.proofs.transactions.package_at.Goals as goal

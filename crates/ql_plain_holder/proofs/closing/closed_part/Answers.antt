@@ -1,9 +1,9 @@
 use Rattle.std.proofs.Common.{◌≡◌, ◌<◌, ℕ, List, get_or, length, take, sym, subst, ◌∙◌, arith}
 use Rattle.std.proofs.lemmas.List.{take_all}
-use Rattle.ql_needs.specs.Closed.{Has}
-use Rattle.ql_needs.specs.Needs.{Needs}
-use Rattle.ql_needs.proofs.ClosedLaws.{closed-member}
-use Rattle.ql_needs.proofs.Members.{index-has}
+use Rattle.ql_holder.specs.Closed.{Has}
+use Rattle.ql_holder.specs.Needs.{Needs}
+use Rattle.ql_holder.proofs.ClosedLaws.{closed-member}
+use Rattle.ql_holder.proofs.Members.{index-has}
 use Rattle.ql_plain_holder.proofs.PlainReceipts.{closed-more}
 use Rattle.ql_plain_holder.proofs.closing.closed_part.Goals as goal
 

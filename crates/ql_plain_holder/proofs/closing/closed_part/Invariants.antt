@@ -1,5 +1,5 @@
 use Rattle.std.proofs.Common.{ℕ, ◌↔◌, take}
-use Rattle.ql_needs.specs.Closed.{Has}
+use Rattle.ql_holder.specs.Closed.{Has}
 use Rattle.ql_holder.specs.Arrivals.{Applied}
 use Rattle.ql_plain_holder.proofs.closing.closed_part.Given as goal
 

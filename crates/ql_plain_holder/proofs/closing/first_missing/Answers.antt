@@ -1,7 +1,7 @@
 use Rattle.std.proofs.Common.{sym, subst, arith}
-use Rattle.ql_needs.specs.Closed.{Has}
-use Rattle.ql_needs.proofs.Members.{has_id-index}
-use Rattle.ql_needs.proofs.Missing.{first-missing}
+use Rattle.ql_holder.specs.Closed.{Has}
+use Rattle.ql_holder.proofs.Members.{has_id-index}
+use Rattle.ql_holder.proofs.Missing.{first-missing}
 use Rattle.ql_plain_holder.proofs.closing.first_missing.Goals as goal
 
 pub returns-then-not-has : goal.returns-then-not-has

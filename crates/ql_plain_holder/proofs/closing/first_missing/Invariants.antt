@@ -1,5 +1,5 @@
 use Rattle.std.proofs.Common.{ℕ, ◌<◌, get_or}
-use Rattle.ql_needs.specs.Closed.{Has}
+use Rattle.ql_holder.specs.Closed.{Has}
 use Rattle.ql_plain_holder.proofs.closing.first_missing.Given as goal
 
 abbrev pub invariant-loop-id : goal.invariant-loop-id

@@ -1,6 +1,6 @@
 use Rattle.std.proofs.Common.{List, ℕ, ap, ◌∙◌}
 use Rattle.ql_base.specs.IdLists.{has_id}
-use Rattle.ql_needs.proofs.IdSets.{has_id-with}
+use Rattle.ql_holder.proofs.IdSets.{has_id-with}
 use Rattle.ql_plain_holder.proofs.closing.insert_id.Goals as goal
 
 pub returns : goal.returns

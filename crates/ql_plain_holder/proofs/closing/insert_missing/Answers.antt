@@ -1,8 +1,8 @@
 use Rattle.std.proofs.Common.{List, ℕ, ap, sym, subst, ◌∙◌}
 use Rattle.ql_base.specs.IdLists.{IsAscending, has_id}
 use Rattle.ql_base.proofs.IdLemmas.{IsAscending-with_id}
-use Rattle.ql_needs.proofs.IdSets.{has_id-with}
-use Rattle.ql_needs.proofs.Missing.{none-more, one-more}
+use Rattle.ql_holder.proofs.IdSets.{has_id-with}
+use Rattle.ql_holder.proofs.Missing.{none-more, one-more}
 use Rattle.ql_plain_holder.proofs.closing.insert_missing.Goals as goal
 
 pub returns-then-has-clause-added : goal.returns-then-has-clause-added

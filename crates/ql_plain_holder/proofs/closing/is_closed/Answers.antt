@@ -1,11 +1,11 @@
 use Rattle.std.proofs.Common.{ℕ, List, [], Some, refl, subst}
 use Rattle.std.proofs.lemmas.Bool.{false≢true}
-use Rattle.ql_needs.specs.Closed.{Has}
-use Rattle.ql_needs.proofs.Packages.{package-whole}
+use Rattle.ql_holder.specs.Closed.{Has}
+use Rattle.ql_holder.proofs.Packages.{package-whole}
 use Rattle.ql_ranges.specs.Ranges.{ids_of}
 use Rattle.ql_ranges.specs.declared.ranges.IdRange.{IdRange}
-use Rattle.ql_reach.specs.Reach.{IsReach}
-use Rattle.ql_needs.specs.Missing.{IsFirstMissing}
+use Rattle.ql_ranges.specs.Reach.{IsReach}
+use Rattle.ql_holder.specs.Missing.{IsFirstMissing}
 use Rattle.ql_plain_holder.proofs.PlainReceipts.{closed-exactly, open-exactly}
 use Rattle.ql_plain_holder.proofs.closing.is_closed.Goals as goal
 

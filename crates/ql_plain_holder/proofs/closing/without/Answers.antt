@@ -1,7 +1,7 @@
 use Rattle.std.proofs.Common.{◌&&◌, not, Bool, get_or, take, ap, sym, ◌∙◌, arith}
 use Rattle.ql_base.specs.IdLists.{has_id}
-use Rattle.ql_needs.proofs.Members.{has_id-take}
-use Rattle.ql_needs.proofs.Missing.{missing-more}
+use Rattle.ql_holder.proofs.Members.{has_id-take}
+use Rattle.ql_holder.proofs.Missing.{missing-more}
 use Rattle.ql_plain_holder.proofs.closing.without.Goals as goal
 
 pub loop-id-preserved : goal.loop-id-preserved

@@ -1,11 +1,11 @@
 use Rattle.std.proofs.Common.{◌&&◌, not, ℕ, List, [], Option, refl, ap, sym, subst, ◌∙◌}
-use Rattle.ql_needs.specs.Needs.{AreWhole}
-use Rattle.ql_needs.proofs.Packages.{package-whole, whole-union}
+use Rattle.ql_holder.specs.Needs.{AreWhole}
+use Rattle.ql_holder.proofs.Packages.{package-whole, whole-union}
 use Rattle.ql_ranges.specs.Ranges.{ids_of}
 use Rattle.ql_ranges.specs.declared.ranges.IdRange.{IdRange}
 use Rattle.ql_base.specs.IdLists.{has_id}
-use Rattle.ql_needs.specs.Missing.{IsFirstMissing}
-use Rattle.ql_reach.specs.Reach.{IsReach}
+use Rattle.ql_holder.specs.Missing.{IsFirstMissing}
+use Rattle.ql_ranges.specs.Reach.{IsReach}
 use Rattle.ql_plain_holder.proofs.PlainReceipts.{fits-after, least-missing, pack-closed, gain-exact}
 use Rattle.ql_plain_holder.proofs.plain_holder.receive_in.Goals as goal
 use Rattle.ql_holder.proofs.Receipts.{again-from, first-has, new-from}

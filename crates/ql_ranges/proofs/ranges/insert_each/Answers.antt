@@ -1,9 +1,9 @@
 use Rattle.std.proofs.Common.{◌≡◌, ◌+◌, ◌<◌, ◌||◌, ℕ, Bool, true, false, List, length, nat_eq, get_or, take, ap, sym, subst, refl, ◌∙◌, arith}
 use Rattle.ql_base.specs.IdLists.{IsAscending, has_id, with_id}
 use Rattle.ql_base.proofs.IdLemmas.{IsAscending-with_id}
-use Rattle.ql_needs.proofs.IdSets.{has_id-with}
+use Rattle.ql_holder.proofs.IdSets.{has_id-with}
 use Rattle.ql_ranges.specs.Ranges.{ids_of}
-use Rattle.ql_needs.proofs.Members.{has_id-take}
+use Rattle.ql_holder.proofs.Members.{has_id-take}
 use Rattle.ql_ranges.proofs.ranges.insert_each.Goals as goal
 
 or_swap : (p q r : Bool) → (p || (q || r)) ≡ (q || (p || r))

@@ -1,7 +1,7 @@
 use Rattle.std.proofs.Common.{◌≡◌, ◌||◌, ℕ, Bool, List, get_or, take, ap, sym, ◌∙◌, arith}
 use Rattle.std.proofs.lemmas.List.{take_all}
 use Rattle.ql_base.specs.IdLists.{has_id}
-use Rattle.ql_needs.proofs.IdSets.{same_ids}
+use Rattle.ql_holder.proofs.IdSets.{same_ids}
 use Rattle.ql_ranges.specs.Ranges.{ids_of}
 use Rattle.ql_ranges.specs.declared.ranges.IdRange.{IdRange}
 use Rattle.ql_ranges.proofs.RangeLemmas.{within, has_id-take_range, none_empty, ascending_ids}

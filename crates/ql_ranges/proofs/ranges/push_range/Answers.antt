@@ -1,7 +1,7 @@
 use Rattle.std.proofs.Common.{◌≡◌, ◌+◌, ◌≤◌, ◌&&◌, ◌||◌, ℕ, Bool, true, false, List, nat_eq, nat_le, nat_lt, ap, sym, subst, refl, ◌∙◌, arith}
 use Rattle.ql_base.specs.IdLists.{IsAscending, has_id, with_id}
 use Rattle.ql_base.proofs.IdLemmas.{IsAscending-with_id}
-use Rattle.ql_needs.proofs.IdSets.{has_id-with}
+use Rattle.ql_holder.proofs.IdSets.{has_id-with}
 use Rattle.ql_ranges.proofs.RangeLemmas.{within-more, within-end}
 use Rattle.ql_ranges.proofs.ranges.push_range.Goals as goal
 

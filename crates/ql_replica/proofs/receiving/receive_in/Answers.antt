@@ -1,10 +1,10 @@
 use Rattle.std.proofs.Common.{ℕ, List, Some, refl, subst}
-use Rattle.ql_needs.proofs.Packages.{package-whole}
+use Rattle.ql_holder.proofs.Packages.{package-whole}
 use Rattle.ql_ranges.specs.Ranges.{ids_of}
 use Rattle.slab.specs.Slab.{get}
 use Rattle.ql_replica.proofs.ReceiptLaws.{fits-same, known-begin, known-fitted, least-missing, may-watch}
 use Rattle.ql_replica.proofs.receiving.receive_in.Goals as goal
-use Rattle.ql_needs.specs.Missing.{IsFirstMissing}
+use Rattle.ql_holder.specs.Missing.{IsFirstMissing}
 use Rattle.ql_holder.proofs.Receipts.{again-from, first-has, new-from}
 
 pub get-requires : goal.get-requires

@@ -1,8 +1,8 @@
 use Rattle.std.proofs.Common.{◌&&◌, not, Bool, get_or, take, ap, sym, ◌∙◌, arith}
 use Rattle.ql_base.specs.IdLists.{has_id}
 use Rattle.ql_ranges.specs.Ranges.{ids_of}
-use Rattle.ql_needs.proofs.Members.{has_id-take}
-use Rattle.ql_needs.proofs.Missing.{missing-more}
+use Rattle.ql_holder.proofs.Members.{has_id-take}
+use Rattle.ql_holder.proofs.Missing.{missing-more}
 use Rattle.ql_replica.proofs.walking.all_outside.Goals as goal
 
 pub loop-id-preserved : goal.loop-id-preserved

@@ -1,8 +1,8 @@
 use Rattle.std.proofs.Common.{sym, subst, arith}
-use Rattle.ql_needs.specs.Closed.{Has}
+use Rattle.ql_holder.specs.Closed.{Has}
 use Rattle.ql_ranges.specs.Ranges.{ids_of}
-use Rattle.ql_needs.proofs.Members.{has_id-index}
-use Rattle.ql_needs.proofs.Missing.{first-missing}
+use Rattle.ql_holder.proofs.Members.{has_id-index}
+use Rattle.ql_holder.proofs.Missing.{first-missing}
 use Rattle.ql_replica.proofs.walking.first_outside.Goals as goal
 
 pub returns-then-not-has : goal.returns-then-not-has

@@ -1,5 +1,5 @@
 use Rattle.std.proofs.Common.{ℕ, ◌<◌, get_or}
-use Rattle.ql_needs.specs.Closed.{Has}
+use Rattle.ql_holder.specs.Closed.{Has}
 use Rattle.ql_ranges.specs.Ranges.{ids_of}
 use Rattle.ql_replica.proofs.walking.first_outside.Given as goal
 

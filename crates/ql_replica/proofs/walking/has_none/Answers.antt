@@ -1,7 +1,7 @@
 use Rattle.std.proofs.Common.{◌≡◌, ℕ, false, get_or, sym, subst, arith}
 use Rattle.ql_base.specs.IdLists.{has_id}
 use Rattle.ql_ranges.specs.Ranges.{ids_of}
-use Rattle.ql_needs.proofs.Members.{has_id-index, index-has}
+use Rattle.ql_holder.proofs.Members.{has_id-index, index-has}
 use Rattle.ql_replica.proofs.walking.has_none.Goals as goal
 
 pub returns-then-has-clause-some : goal.returns-then-has-clause-some

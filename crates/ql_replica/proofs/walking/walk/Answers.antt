@@ -1,12 +1,12 @@
 use Rattle.std.proofs.Common.{ℕ, List, Some, refl, sym, subst}
 use Rattle.ql_base.specs.IdLists.{union_of}
-use Rattle.ql_needs.specs.Closed.{Has}
-use Rattle.ql_needs.proofs.Packages.{package-whole}
+use Rattle.ql_holder.specs.Closed.{Has}
+use Rattle.ql_holder.proofs.Packages.{package-whole}
 use Rattle.ql_ranges.specs.Ranges.{ids_of}
 use Rattle.ql_replica.specs.Progress.{Advances, AreKnown}
 use Rattle.ql_replica.proofs.ReceiptLaws.{known-more, walked-in, advances-union, least-missing}
 use Rattle.ql_replica.proofs.walking.walk.Goals as goal
-use Rattle.ql_needs.specs.Missing.{IsFirstMissing}
+use Rattle.ql_holder.specs.Missing.{IsFirstMissing}
 
 pub reach-requires-clause-asked : goal.reach-requires-clause-asked
 reach-requires-clause-asked c = package-whole c.args.x.now c.args.pack.now c.requires.package

@@ -1,8 +1,8 @@
 use Rattle.std.proofs.Common.{◌≡◌, ℕ, List, false, subst}
 use Rattle.ql_base.specs.IdLists.{has_id}
-use Rattle.ql_needs.specs.Closed.{Has}
+use Rattle.ql_holder.specs.Closed.{Has}
 use Rattle.ql_ranges.specs.Ranges.{ids_of}
-use Rattle.ql_needs.proofs.Missing.{missing-all}
+use Rattle.ql_holder.proofs.Missing.{missing-all}
 use Rattle.ql_replica.proofs.walking.without.Goals as goal
 
 pub returns-then-has_none-clause-lacks : goal.returns-then-has_none-clause-lacks

@@ -6,7 +6,7 @@ use Rattle.ql_exec.specs.declared.effect.Effect.{Effect}
 use Rattle.ql_holder.specs.Arrivals.{Applied}
 use Rattle.ql_journal.specs.Stations.{holder_of}
 use Rattle.ql_machine.specs.Sets.{AreThose}
-use Rattle.ql_needs.specs.Closed.{Has}
+use Rattle.ql_holder.specs.Closed.{Has}
 use Rattle.ql_restart.specs.Journaled.{IsJournaled, packages}
 use Rattle.ql_restart.specs.Progress.{HasKnown, IsJournal}
 use Rattle.ql_restart.specs.Restarts.{IsRestartText, id_line, no_journal, recovered}

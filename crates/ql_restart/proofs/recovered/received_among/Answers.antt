@@ -1,6 +1,6 @@
 use Rattle.std.proofs.Common.{sym, ◌∙◌, add-one}
 use Rattle.std.proofs.lemmas.Bool.{both_ways}
-use Rattle.ql_needs.specs.Closed.{Has}
+use Rattle.ql_holder.specs.Closed.{Has}
 use Rattle.ql_shim.proofs.JoinedLaws.{those-more, those-same}
 use Rattle.ql_restart.proofs.recovered.received_among.Goals as goal
 use Rattle.ql_restart.proofs.recovered.received_among.Goals.{then-has+in_ok-insert, else-has}

@@ -1,6 +1,6 @@
 use Rattle.std.proofs.Common.{take}
 use Rattle.ql_machine.specs.Sets.{AreThose}
-use Rattle.ql_needs.specs.Closed.{Has}
+use Rattle.ql_holder.specs.Closed.{Has}
 use Rattle.ql_restart.proofs.recovered.received_among.Given as goal
 
 abbrev pub invariant-loop-id : goal.invariant-loop-id

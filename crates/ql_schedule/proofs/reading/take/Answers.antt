@@ -1,5 +1,5 @@
 use Rattle.std.proofs.Common.{sym, subst}
-use Rattle.ql_line_files.specs.Answers.{IsLineAnswer}
+use Rattle.ql_lines.specs.Answers.{IsLineAnswer}
 use Rattle.ql_schedule.specs.declared.reading.Reading.{Reading}
 use Rattle.ql_schedule.specs.Outcomes.{ExtendsSchedule}
 use Rattle.ql_schedule.specs.Parts.{parts_of}

@@ -2,7 +2,7 @@ use Rattle.std.proofs.Common.{◌≡◌, ◌+◌, ◌∷◌, ◌++◌, [], take,
 use Rattle.std.proofs.Math.Seq.{take-suc}
 use Rattle.std.proofs.lemmas.Bool.{false≢true}
 use Rattle.ql_base.proofs.IdLemmas.{has_id-there}
-use Rattle.ql_needs.specs.Closed.{Has}
+use Rattle.ql_holder.specs.Closed.{Has}
 use Rattle.ql_ranges.specs.Ranges.{ids_of}
 use Rattle.ql_session.proofs.MissingLaws.{first-or-later, has-cases}
 use Rattle.ql_session.proofs.past.first_missing.Goals.{else-has-via-then-has+else-not-has, else-has-via-else-has}

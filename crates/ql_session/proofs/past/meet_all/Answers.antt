@@ -1,5 +1,5 @@
 use Rattle.std.proofs.Common.{sym, subst}
-use Rattle.ql_needs.proofs.IdSets.{in_union-left, in_union-right, in_union-cases}
+use Rattle.ql_holder.proofs.IdSets.{in_union-left, in_union-right, in_union-cases}
 use Rattle.ql_ranges.specs.Ranges.{ids_of}
 use Rattle.ql_session.specs.Walks.{Joins}
 use Rattle.ql_session.proofs.past.meet_all.Goals as goal

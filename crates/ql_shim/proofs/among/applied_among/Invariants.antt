@@ -1,6 +1,6 @@
 use Rattle.std.proofs.Common.{List, take}
 use Rattle.ql_exec.specs.declared.effect.Effect.{Effect}
-use Rattle.ql_needs.specs.Closed.{Has}
+use Rattle.ql_holder.specs.Closed.{Has}
 use Rattle.ql_holder.specs.Arrivals.{Applied}
 use Rattle.ql_machine.specs.Sets.{AreThose}
 use Rattle.ql_shim.proofs.among.applied_among.Given as goal

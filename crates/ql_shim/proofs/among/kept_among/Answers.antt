@@ -1,7 +1,7 @@
 use Rattle.std.proofs.Common.{◌∙◌, sym, get_or, add-one}
 use Rattle.std.proofs.lemmas.Bool.{both_ways}
 use Rattle.ql_base.specs.IdLists.{has_id}
-use Rattle.ql_needs.specs.Closed.{Has}
+use Rattle.ql_holder.specs.Closed.{Has}
 use Rattle.ql_shim.proofs.JoinedLaws.{those-more, those-same}
 use Rattle.ql_shim.proofs.among.kept_among.Goals as goal
 use Rattle.ql_shim.proofs.among.kept_among.Goals.{then-has_next+in_ok-insert, else-has_next}

@@ -1,5 +1,5 @@
 use Rattle.std.proofs.Common.{take}
-use Rattle.ql_needs.specs.Closed.{Has}
+use Rattle.ql_holder.specs.Closed.{Has}
 use Rattle.ql_machine.specs.Sets.{AreThose}
 use Rattle.ql_shim.proofs.among.kept_among.Given as goal
 

@@ -1,6 +1,6 @@
 use Rattle.std.proofs.Common.{length, get_or, ◌∙◌, sym, ap, add-one, arith}
 use Rattle.ql_shim.proofs.CompleteLaws.{complete-kept, complete-passed}
-use Rattle.ql_needs.proofs.Members.{index-has}
+use Rattle.ql_holder.proofs.Members.{index-has}
 use Rattle.ql_shim.proofs.NextLaws.{effect-read}
 use Rattle.ql_shim.proofs.scope.all_own.Goals as goal
 use Rattle.ql_shim.proofs.scope.all_own.Goals.{then-is_kept+in_ok-insert, else-is_kept+else-is_awaited}

@@ -1,7 +1,7 @@
 use Rattle.std.proofs.Common.{◌≡◌, ℕ, List, suc, length, get_or, take, ◌∙◌, subst, ap, add-one, arith}
 use Rattle.std.proofs.Math.Seq.{take-length}
 use Rattle.ql_shim.specs.Joined.{IsJoined}
-use Rattle.ql_needs.proofs.Members.{index-has}
+use Rattle.ql_holder.proofs.Members.{index-has}
 use Rattle.ql_shim.proofs.NextLaws.{IsOrdered, effect-read, next-is, way-on}
 use Rattle.ql_shim.proofs.scope.one_by_one.Goals as goal
 

@@ -1,9 +1,9 @@
 use Rattle.std.proofs.Common.{ℕ, suc, inl, inr, ◌∙◌, sym, subst, ap, get_or, take, add-one}
 use Rattle.std.proofs.lemmas.Bool.{both_ways, cases_lt}
 use Rattle.ql_base.specs.IdLists.{has_id}
-use Rattle.ql_needs.specs.Closed.{Closed, Has}
-use Rattle.ql_needs.specs.Needs.{Needs}
-use Rattle.ql_needs.proofs.Members.{index-has}
+use Rattle.ql_holder.specs.Closed.{Closed, Has}
+use Rattle.ql_holder.specs.Needs.{Needs}
+use Rattle.ql_holder.proofs.Members.{index-has}
 use Rattle.ql_shim.proofs.JoinedLaws.{below-front, next-has}
 use Rattle.ql_shim.proofs.unapplied.first_unapplied.Goals as goal
 use Rattle.ql_shim.proofs.unapplied.first_unapplied.Goals.{else-not-has-via-then-not-has+else-not-applied, else-not-has-via-else-not-has}

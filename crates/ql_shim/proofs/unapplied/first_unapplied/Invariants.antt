@@ -1,8 +1,8 @@
 use Rattle.std.proofs.Common.{◌≡◌, false, List, ℕ, take}
 use Rattle.ql_base.specs.IdLists.{has_id}
 use Rattle.ql_exec.specs.declared.effect.Effect.{Effect}
-use Rattle.ql_needs.specs.Closed.{Closed, Has}
-use Rattle.ql_needs.specs.Needs.{Needs}
+use Rattle.ql_holder.specs.Closed.{Closed, Has}
+use Rattle.ql_holder.specs.Needs.{Needs}
 use Rattle.ql_shim.proofs.unapplied.first_unapplied.Given as goal
 
 abbrev pub invariant-loop-a : goal.invariant-loop-a

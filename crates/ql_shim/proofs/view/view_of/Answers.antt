@@ -1,5 +1,5 @@
 use Rattle.std.proofs.Common.{subst, ℕ, List}
-use Rattle.ql_needs.specs.Closed.{Has}
+use Rattle.ql_holder.specs.Closed.{Has}
 use Rattle.ql_holder.specs.Arrivals.{Applied}
 use Rattle.ql_shim.specs.Viewing.{IsFirstUnapplied}
 use Rattle.ql_shim.proofs.ViewLaws.{seen-are, closed-kept, missing-is, those-others}

@@ -1,9 +1,9 @@
 use Rattle.std.proofs.Common.{◌≡◌, length, arith}
 use Rattle.std.proofs.lemmas.Bool.{both_ways}
 use Rattle.ql_holder.specs.Arrivals.{Applied}
-use Rattle.ql_needs.specs.Closed.{Has}
-use Rattle.ql_needs.specs.Needs.{Needs}
-use Rattle.ql_needs.proofs.ClosedLaws.{closed-member}
+use Rattle.ql_holder.specs.Closed.{Has}
+use Rattle.ql_holder.specs.Needs.{Needs}
+use Rattle.ql_holder.proofs.ClosedLaws.{closed-member}
 use Rattle.ql_store.proofs.BeginLaws.{first-all, first-more, first-none, first-same}
 use Rattle.ql_store.proofs.begin.applied_by.Goals as goal
 use Rattle.ql_store.proofs.begin.applied_by.Goals.{then-applied+in_ok-insert, else-applied}

@@ -1,5 +1,5 @@
 use Rattle.std.proofs.Common.{◌≡◌, ◌<◌, length, arith}
-use Rattle.ql_needs.proofs.Members.{index-has}
+use Rattle.ql_holder.proofs.Members.{index-has}
 use Rattle.ql_store.proofs.CommitLaws.{none-received, none-sent}
 use Rattle.ql_store.proofs.commit.spread_all.Goals as goal
 

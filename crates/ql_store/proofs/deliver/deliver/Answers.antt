@@ -1,9 +1,9 @@
 use Rattle.std.proofs.Common.{ℕ, map, sym, subst}
 use Rattle.std.proofs.lemmas.List.{length-map}
-use Rattle.ql_needs.specs.Needs.{IsPackage}
+use Rattle.ql_holder.specs.Needs.{IsPackage}
 use Rattle.ql_machine.specs.Deliveries.{cut, gone}
-use Rattle.ql_machine_laws.specs.Kept.{IsParcel}
-use Rattle.ql_machine_laws.proofs.Lists.{each-at}
+use Rattle.ql_machine.specs.Kept.{IsParcel}
+use Rattle.ql_machine.proofs.Lists.{each-at}
 use Rattle.ql_store.specs.State.{GoWithin}
 use Rattle.ql_store.proofs.ReceiptLaws.{delivered}
 use Rattle.ql_store.proofs.deliver.deliver.Goals as goal

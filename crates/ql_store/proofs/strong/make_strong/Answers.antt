@@ -3,8 +3,8 @@ use Rattle.ql_exec.specs.declared.effect.Effect.{Effect}
 use Rattle.ql_exec.specs.Execution.{effect_of}
 use Rattle.ql_machine.specs.Sets.{AreThose}
 use Rattle.ql_machine.specs.State.{committed}
-use Rattle.ql_needs.specs.Closed.{Has}
-use Rattle.ql_needs.specs.Needs.{AreWhole}
+use Rattle.ql_holder.specs.Closed.{Has}
+use Rattle.ql_holder.specs.Needs.{AreWhole}
 use Rattle.ql_shim.specs.Transactions.{open_txns}
 use Rattle.ql_store.proofs.MadeLaws.{package-alone}
 use Rattle.ql_store.proofs.NoteSets.{noted-pop, noted-some}

@@ -1,8 +1,8 @@
 use Rattle.std.proofs.Common.{ℕ, List, ap, map, sym, subst, ◌∙◌}
 use Rattle.std.proofs.lemmas.Result.{MatchResult-weaker}
 use Rattle.ql_machine.specs.Changes.{received_by_all}
-use Rattle.ql_needs.specs.Closed.{Has}
-use Rattle.ql_needs.specs.Needs.{AreWhole}
+use Rattle.ql_holder.specs.Closed.{Has}
+use Rattle.ql_holder.specs.Needs.{AreWhole}
 use Rattle.ql_store.proofs.StrongLaws.{has-more, received-one-more, whole-one-more}
 use Rattle.ql_store.proofs.strong.synced.Goals as goal
 

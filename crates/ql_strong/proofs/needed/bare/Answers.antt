@@ -1,9 +1,9 @@
 use Rattle.std.proofs.Common.{◌≡◌, subst, sym}
 use Rattle.std.proofs.lemmas.Result.{IfOk-weaker}
 use Rattle.ql_machine.specs.Sets.{AreThose}
-use Rattle.ql_needs.specs.Needs.{AreWhole, IsNeeded}
+use Rattle.ql_holder.specs.Needs.{AreWhole, IsNeeded}
 use Rattle.ql_ranges.specs.Ranges.{ids_of}
-use Rattle.ql_reach.specs.Reach.{IsReach}
+use Rattle.ql_ranges.specs.Reach.{IsReach}
 use Rattle.ql_strong.proofs.BareLaws.{needed-whole, needed-those}
 use Rattle.ql_strong.proofs.needed.bare.Goals as goal
 

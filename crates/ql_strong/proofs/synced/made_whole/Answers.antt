@@ -3,7 +3,7 @@ use Rattle.std.proofs.lemmas.List.{take_rest, length-drop}
 use Rattle.ql_base.specs.IdLists.{IsAscending, has_id}
 use Rattle.ql_base.proofs.IdLemmas.{IsAscending-drop}
 use Rattle.ql_strong.specs.Within.{AreAmong, IsUnderWay, IsWithin}
-use Rattle.ql_needs.proofs.Members.{index-has}
+use Rattle.ql_holder.proofs.Members.{index-has}
 use Rattle.ql_strong.proofs.SyncLaws.{way-begins, way-on, way-past, way-ends}
 use Rattle.ql_strong.proofs.synced.made_whole.Goals as goal
 

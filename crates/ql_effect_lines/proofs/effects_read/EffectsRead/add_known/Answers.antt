@@ -2,7 +2,7 @@ use Rattle.std.proofs.Common.{◌≡◌, Bool, true, false, Result, Ok, Err, ap,
 use Rattle.std.specs.Prelude.{if◌then◌else◌}
 use Rattle.ql_base.specs.declared.ids.ObjId.{ObjId}
 use Rattle.ql_exec.specs.declared.effect.Draft.{Draft}
-use Rattle.ql_line_files.specs.Answers.{IsLineAnswer}
+use Rattle.ql_lines.specs.Answers.{IsLineAnswer}
 use Rattle.ql_effect_lines.specs.declared.effects_read.EffectsRead.{EffectsRead}
 use Rattle.ql_effect_lines.specs.declared.rules.ReportRule.{ReportRule}
 use Rattle.ql_effect_lines.specs.declared.rules.ReportRule.TheVariants.{Mixed}

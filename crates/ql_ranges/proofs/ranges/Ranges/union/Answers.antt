@@ -1,7 +1,7 @@
 use Rattle.std.proofs.Common.{◌||◌, List, ℕ, ap, sym, subst, ◌∙◌}
 use Rattle.ql_base.specs.IdLists.{IsAscending, has_id, union_of}
 use Rattle.ql_base.proofs.IdLemmas.{IsAscending-union}
-use Rattle.ql_needs.proofs.IdSets.{has_id-union, same_ids}
+use Rattle.ql_holder.proofs.IdSets.{has_id-union, same_ids}
 use Rattle.ql_ranges.specs.Ranges.{ids_of}
 use Rattle.ql_ranges.specs.declared.ranges.IdRange.{IdRange}
 use Rattle.ql_ranges.proofs.RangeLemmas.{ascending_ids}

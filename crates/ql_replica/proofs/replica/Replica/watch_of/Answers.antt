@@ -1,8 +1,8 @@
 use Rattle.std.proofs.Common.{ℕ, List, Option, Some, None, IfSome, subst}
 use Rattle.ql_base.specs.declared.ids.EffId.{EffId}
 use Rattle.ql_exec.specs.declared.effect.Effect.{Effect}
-use Rattle.ql_needs.specs.Closed.{Reaches}
-use Rattle.ql_needs.specs.Needs.{Needs}
+use Rattle.ql_holder.specs.Closed.{Reaches}
+use Rattle.ql_holder.specs.Needs.{Needs}
 use Rattle.ql_ranges.specs.Ranges.{ids_of}
 use Rattle.ql_replica.specs.Waiting.{FitsReplica, IsWatchIn, Kept, held_by}
 use Rattle.ql_replica.proofs.ReceiptLaws.{watch-needed}

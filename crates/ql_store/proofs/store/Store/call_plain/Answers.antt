@@ -11,7 +11,7 @@ use Rattle.ql_exec.specs.Folding.{seen_in_order}
 use Rattle.ql_holder.specs.Arrivals.{Applied}
 use Rattle.ql_levels.specs.declared.level.Level.{Level}
 use Rattle.ql_levels.specs.declared.level.Level.TheVariants.{Strong}
-use Rattle.ql_needs.specs.Needs.{JoinsNone}
+use Rattle.ql_holder.specs.Needs.{JoinsNone}
 use Rattle.ql_machine.specs.declared.event.Event.TheVariants as event
 use Rattle.ql_machine.specs.declared.reply.Reply.{Reply}
 use Rattle.ql_machine.specs.declared.reply.Reply.TheVariants as reply

@@ -15,8 +15,8 @@ use Rattle.ql_machine.specs.Rules.{Call, Rules}
 use Rattle.ql_machine.specs.Sets.{AreThose}
 use Rattle.ql_machine.specs.State.{Machine, committed}
 use Rattle.ql_machine.specs.Steps.{IsStep, calls}
-use Rattle.ql_needs.specs.Needs.{JoinsNone}
-use Rattle.ql_machine_laws.specs.Kept.{AreDone}
+use Rattle.ql_holder.specs.Needs.{JoinsNone}
+use Rattle.ql_machine.specs.Kept.{AreDone}
 use Rattle.ql_session.specs.declared.note.Note.{Note}
 use Rattle.ql_session.specs.Executions.{notes_of}
 use Rattle.ql_shim.specs.Transactions.{open_txns, own_of, saw_of}

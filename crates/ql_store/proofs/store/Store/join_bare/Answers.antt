@@ -3,7 +3,7 @@ use Rattle.ql_machine.specs.declared.event.Event.TheVariants as event
 use Rattle.ql_machine.specs.Rules.{Promises, Rules}
 use Rattle.ql_machine.specs.Sets.{AreThose}
 use Rattle.ql_machine.specs.Steps.{IsStep, IsUnderStrong}
-use Rattle.ql_machine_laws.specs.Kept.{Keeps}
+use Rattle.ql_machine.specs.Kept.{Keeps}
 use Rattle.ql_store.specs.Joining.{IsNeededByStrong}
 use Rattle.ql_store.specs.Levels.{promises_of}
 use Rattle.ql_store.specs.State.{StoreState, machine_of}

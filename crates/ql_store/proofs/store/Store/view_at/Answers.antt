@@ -6,8 +6,8 @@ use Rattle.ql_exec.specs.Execution.{IsOn}
 use Rattle.ql_holder.specs.Arrivals as held
 use Rattle.ql_machine.specs.Sets.{AreThose}
 use Rattle.ql_machine.specs.State.{received_at}
-use Rattle.ql_machine_laws.proofs.Alone.{applied-same}
-use Rattle.ql_needs.specs.Closed.{Has}
+use Rattle.ql_machine.proofs.Alone.{applied-same}
+use Rattle.ql_holder.specs.Closed.{Has}
 use Rattle.ql_session.specs.declared.note.Note.{Note}
 use Rattle.ql_session.specs.Notes.{effects_on}
 use Rattle.ql_store.specs.Levels.{promises_of}

@@ -1,4 +1,0 @@
-pub mod Grammar
-pub mod TreeRules
-pub mod Questions
-pub mod FirstFaults

@@ -1,4 +1,0 @@
-pub mod Reported
-mod Lists
-mod Distinct
-mod StrongUses

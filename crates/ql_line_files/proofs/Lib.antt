@@ -1,3 +1,0 @@
-pub mod OneOutcome
-pub mod WrittenNumbers
-mod ShortLines

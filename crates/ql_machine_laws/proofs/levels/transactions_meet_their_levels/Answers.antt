@@ -1,6 +1,0 @@
-use Rattle.ql_machine_laws.proofs.Formulas.{txn_level_holds}
-use Rattle.ql_machine_laws.proofs.Runs.{kept}
-use Rattle.ql_machine_laws.proofs.levels.transactions_meet_their_levels.Goals as goal
-
-pub returns : goal.returns
-returns c = λ rules n events replies last is run decl named. txn_level_holds rules.promises n last (kept rules n events replies last is) run decl named

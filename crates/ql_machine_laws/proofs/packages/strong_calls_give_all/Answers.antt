@@ -1,5 +1,0 @@
-use Rattle.ql_machine_laws.proofs.Alone.{all-given}
-use Rattle.ql_machine_laws.proofs.packages.strong_calls_give_all.Goals as goal
-
-pub returns : goal.returns
-returns c = all-given

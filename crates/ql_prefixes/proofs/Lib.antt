@@ -1,9 +1,0 @@
-mod Respelled
-mod Terminals
-mod Spellings
-mod Lexemes
-mod Continued
-mod Cut
-mod Beginnings
-mod Prefixes
-mod NoText

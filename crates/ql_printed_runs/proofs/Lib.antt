@@ -1,7 +1,0 @@
-mod LinesAgain
-mod FieldsAgain
-mod EffectAgain
-mod Numbers
-pub mod Renumbering
-mod ExecutionAgain
-mod RunAgain

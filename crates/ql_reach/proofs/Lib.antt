@@ -1,3 +1,0 @@
-mod WalkLaws
-mod NeighbourLaws
-mod ReachLaws

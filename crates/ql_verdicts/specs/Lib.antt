@@ -1,0 +1,5 @@
+pub mod Agreement
+pub mod Renumbered
+pub mod Printable
+pub mod Commands
+pub mod Uses

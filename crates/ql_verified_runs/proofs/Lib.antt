@@ -1,6 +1,0 @@
-mod Truth
-mod Verdicts
-mod Judgements
-mod FoundNames
-mod Made
-mod Printing

@@ -1,5 +1,0 @@
-use Rattle.ql_verified_runs.proofs.Printing.{run-printable}
-use Rattle.ql_verified_runs.proofs.law.runs_can_be_printed.Goals as goal
-
-pub returns : goal.returns
-returns c = run-printable
