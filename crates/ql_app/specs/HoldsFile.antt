@@ -1,4 +1,4 @@
--- What is said of the files of `holds`. Their grammar, their questions and their first faults are those of ql_holds_grammar,
+-- What is said of the files of `holds`. Their grammar, their questions and their first faults are those of ql_holds_files,
 -- and truth is that of ql_formula.
 use Rattle.std.specs.Prelude.{◌≡◌, ℕ, ◌<◌, ◌≤◌, ◌^◌, List, [], ◌∷◌, ◌++◌, length, codes, decimal}
 use Rattle.ql_base.specs.declared.limits.TheConstants.{MAX_WORK}

@@ -1,5 +1,6 @@
 // The files of `holds`: a contract, and an execution with one of its effects as the current one.
-// The one contract: reading a file yields either its question or its first fault.
+// The one contract: reading a file yields the question that its lines spell, or its first fault, which is the first line with
+// which no file of the grammar begins that keeps the rules.
 #![tactic(auto)]
 
 mod asked;
