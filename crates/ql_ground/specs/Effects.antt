@@ -1,6 +1,6 @@
 -- Effects, and executions as lists of them.
 -- They have only what ground problems are about, as plain numbers, so that this crate needs no store; the effects of
--- `ql_exec` carry values and stamps as well, and the law of `ql_implied` joins the two.
+-- `ql_exec` carry values and stamps as well, and the law of `ql_implication` joins the two.
 use Rattle.std.specs.Prelude.{ℕ, zero, suc, List, Option, None, slice_get}
 
 -- an effect is outside any begun transaction, or inside one: its number and its declared name

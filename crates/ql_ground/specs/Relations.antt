@@ -1,5 +1,5 @@
 -- The relations of an execution, as tests on the numbers of two effects. They are over the plain effects of ground
--- problems; those of `ql_exec` are over the store's effects, and the law of `ql_implied` joins the two.
+-- problems; those of `ql_exec` are over the store's effects, and the law of `ql_implication` joins the two.
 use Rattle.std.specs.Prelude.{ℕ, zero, suc, ◌≡◌, ◌<◌, Bool, true, false, ◌&&◌, ◌||◌, ◌==◌, nat_lt, List, Option, None, Some}
 use Rattle.std.specs.List.{list_any}
 use Rattle.ql_ground.specs.Effects.{Effect, Member, Alone, Inside, effect_at}

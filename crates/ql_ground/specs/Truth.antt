@@ -1,5 +1,5 @@
 -- The truth of formulas in an execution: at an effect, and for a begun transaction. It is over the plain effects of ground
--- problems; that of `ql_formula` is over the store's effects, and the law of `ql_implied` joins the two.
+-- problems; that of `ql_formula` is over the store's effects, and the law of `ql_implication` joins the two.
 use Rattle.std.specs.Prelude.{ℕ, ◌≡◌, Bool, true, false, not, ◌&&◌, ◌||◌, ◌==◌, List, [], ◌∷◌, map, slice_index}
 use Rattle.std.specs.List.{list_all, list_any}
 use Rattle.ql_lang.specs.Trees.{Relation, Basic, Union, Intersection}
