@@ -12,7 +12,7 @@ use ql_journal::{Station, StationWhy};
 use ql_plain_holder::package_of;
 use ql_replica::Replica;
 use ql_reply::Status;
-use ql_test_effects::{draft, push};
+use ql_test_inputs::{draft, push};
 use std::alloc::Global;
 use std::fs::OpenOptions;
 use std::io;

@@ -3,7 +3,7 @@ ghost use Rattle.std.specs.Prelude.{◌≡◌, length, IfOk};
 use ql_base::{MsgId, NoMemory, ReplicaId};
 use ql_machine::Groups;
 use ql_net::{Flight, Net};
-use ql_test_effects::id_set;
+use ql_test_inputs::id_set;
 use std::alloc::Global;
 use std::test::Fail;
 

@@ -5,7 +5,7 @@ use ql_base::{EffId, IdSet, NoMemory, ObjId, SessId, push_bytes, push_number};
 use ql_exec::{Effect, Execution, Member};
 use ql_session::Sessions;
 use ql_tables::{check_table, id_set_of, number};
-use ql_test_effects::{draft, id_set};
+use ql_test_inputs::{draft, id_set};
 use std::alloc::Global;
 use std::test::Fail;
 

@@ -11,7 +11,7 @@ use ql_levels::TxnLevel;
 use ql_replica::Replica;
 use ql_shim::{Shim, View};
 use ql_strong::{bare, package_of, sync};
-use ql_test_effects::{draft, id_set};
+use ql_test_inputs::{draft, id_set};
 use std::alloc::Global;
 use std::test::Fail;
 

@@ -1,5 +1,5 @@
-// Tests of the tokens of texts, of printed trees, and of how the operations of contracts are numbered. The results are from
-// outside, and no crate depends on this one.
+// Tests of the tokens of texts, of printed trees, of how the operations of contracts are numbered, and of schedules, each
+// printed as it was read. The results are from outside, and no crate depends on this one.
 #![tactic(auto)]
 
 #[cfg(test)]
@@ -8,6 +8,8 @@ mod contract_trees;
 mod contracts;
 #[cfg(test)]
 mod program_trees;
+#[cfg(test)]
+mod schedules;
 #[cfg(test)]
 mod texts;
 #[cfg(test)]

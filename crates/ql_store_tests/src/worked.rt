@@ -7,7 +7,7 @@ use ql_replica::Replica;
 use ql_runs::run_schedule;
 use ql_schedule::parse_schedule;
 use ql_tables::{check_table, spelled};
-use ql_test_programs::declared;
+use ql_test_inputs::declared;
 use ql_typing::Typed;
 use std::alloc::Global;
 use std::test::Fail;
