@@ -1,7 +1,7 @@
 use ql_base::OpId;
 
 /// A relation between two effects. Atoms are numbered in the order of these variants.
-#[derive(Clone, Copy, Debug, PartialEq, Eq)]
+#[derive(Clone, Copy, PartialEq, Eq)]
 pub enum PairKind {
     Eq,
     So,
@@ -13,7 +13,7 @@ pub enum PairKind {
 }
 
 /// A ground atom. Constants are numbered from 0.
-#[derive(Clone, Copy, Debug, PartialEq, Eq)]
+#[derive(Clone, Copy, PartialEq, Eq)]
 pub enum Atom {
     /// The relation holds from the first constant to the second.
     Pair(PairKind, u32, u32),

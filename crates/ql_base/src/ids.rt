@@ -1,5 +1,5 @@
 /// An operation of a program, numbered from 0 over all its types.
-#[derive(Clone, Copy, Debug, PartialEq, Eq)]
+#[derive(Clone, Copy, PartialEq, Eq)]
 pub struct OpId(pub u32);
 
 /// A replicated type, numbered from 0.
@@ -15,15 +15,15 @@ pub struct ObjId(pub u32);
 pub struct SessId(pub u32);
 
 /// A declared transaction, numbered from 0.
-#[derive(Clone, Copy, Debug, PartialEq, Eq)]
+#[derive(Clone, Copy, PartialEq, Eq)]
 pub struct DeclId(pub u32);
 
 /// A begun transaction, numbered from 1.
-#[derive(Clone, Copy, Debug, PartialEq, Eq)]
+#[derive(Clone, Copy, PartialEq, Eq)]
 pub struct RunId(pub u32);
 
 /// An effect of an execution, numbered from 1.
-#[derive(Clone, Copy, Debug, PartialEq, Eq)]
+#[derive(Clone, Copy, PartialEq, Eq)]
 pub struct EffId(pub u32);
 
 /// A message, numbered from 1.

@@ -2,7 +2,7 @@ ghost use Rattle.std.specs.Prelude.{◌≡◌, ◌↔◌, IsTrue};
 ghost use Rattle.ql_cnf.specs.Satisfaction.{AreInRange};
 
 /// A literal: a variable, numbered from 1, or its negation.
-#[derive(Clone, Copy, Debug, PartialEq, Eq)]
+#[derive(Clone, Copy, PartialEq, Eq)]
 pub struct Lit {
     pub var: u32,
     pub positive: bool,

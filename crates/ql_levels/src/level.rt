@@ -1,5 +1,5 @@
 /// What the store guarantees to a call of an operation, in ascending order.
-#[derive(Clone, Copy, Debug, PartialEq, Eq)]
+#[derive(Clone, Copy, PartialEq, Eq)]
 pub enum Level {
     Eventual,
     Causal,
@@ -9,7 +9,7 @@ pub enum Level {
 
 /// What the store guarantees to a transaction, in ascending order: read committed, monotonic atomic view,
 /// repeatable read.
-#[derive(Clone, Copy, Debug, PartialEq, Eq)]
+#[derive(Clone, Copy, PartialEq, Eq)]
 pub enum TxnLevel {
     Rc,
     Mav,

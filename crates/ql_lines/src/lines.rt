@@ -7,7 +7,7 @@ use crate::search::bytes_before;
 use std::marker::Model;
 
 /// A line of a line file that isn't skipped, without its end.
-#[derive(Clone, Copy, Debug)]
+#[derive(Clone, Copy)]
 pub struct Line<'a> {
     /// The line's number, from 1.
     pub number: u64,

@@ -6,7 +6,7 @@ use std::alloc::Global;
 use std::marker::Model;
 
 /// A clause that a line is derived from, each numbered from 1.
-#[derive(Clone, Copy, Debug)]
+#[derive(Clone, Copy)]
 pub enum Hint {
     /// A clause of the list that is refuted.
     Given(u32),

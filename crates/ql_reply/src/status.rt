@@ -7,7 +7,7 @@ use ql_base::NoMemory;
 pub(crate) const NO_MEMORY: u8 = 6;
 
 /// How a call of a program ended. Its number is the process's exit status.
-#[derive(Clone, Copy, Debug, PartialEq, Eq)]
+#[derive(Clone, Copy, PartialEq, Eq)]
 pub enum Status {
     /// What was asked for was written; a question was answered with yes.
     Done = 0,

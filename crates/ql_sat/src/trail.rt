@@ -18,7 +18,7 @@ use ql_refute::{Hint, hinted};
 use std::alloc::Global;
 
 // A literal that was made true, and the clause that forced it; a decision has none.
-#[derive(Clone, Copy, Debug)]
+#[derive(Clone, Copy)]
 pub(crate) struct Step {
     pub lit: Lit,
     pub reason: Option<Hint>,
@@ -32,7 +32,7 @@ pub(crate) struct Trail {
 }
 
 // The result of reading a clause.
-#[derive(Clone, Copy, Debug, PartialEq, Eq)]
+#[derive(Clone, Copy, PartialEq, Eq)]
 pub(crate) enum Visit {
     Nothing,
     Forced,
