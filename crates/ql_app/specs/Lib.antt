@@ -5,5 +5,3 @@ pub mod HoldsFaults
 pub mod ProofFile
 pub mod Outcome
 pub mod MissingFiles
-pub mod RunWritten
-pub mod LeastWritten

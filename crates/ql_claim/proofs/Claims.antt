@@ -12,7 +12,7 @@ use Rattle.ql_app.specs.declared.words.Command.TheVariants.{Prove}
 use Rattle.ql_app.specs.declared.words.PairCommand.TheVariants.{Check}
 use Rattle.ql_app.specs.Outcome.{AreHeld, IsAnswered, NoneRose, Says}
 use Rattle.ql_reply.specs.Wrote.{Wrote}
-use Rattle.ql_app.specs.RunWritten.{WritesRun}
+use Rattle.ql_claim.specs.RunWritten.{WritesRun}
 use Rattle.ql_app.specs.Words.{NamedRequest, IsRequest, TwoFiles}
 use Rattle.ql_classify.specs.Outcome.{IsAccepted}
 use Rattle.ql_classify.specs.Targets.{IsOpLevel}

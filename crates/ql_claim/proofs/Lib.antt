@@ -7,3 +7,5 @@ mod Claims
 mod SoundLines
 mod SoundClaims
 mod KeptClaims
+mod RunWritten
+mod LeastWritten

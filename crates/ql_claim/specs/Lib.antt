@@ -2,3 +2,5 @@ pub mod Headline
 pub mod InTurn
 pub mod Soundness
 pub mod Kept
+pub mod RunWritten
+pub mod LeastWritten

@@ -16,7 +16,7 @@ ghost use Rattle.ql_typing.specs.Operations.{op_kinds};
 ghost use Rattle.ql_claim.specs.Headline.{Headline};
 ghost use Rattle.ql_claim.specs.Soundness.{Soundness};
 
-use ql_app::contracts_hold_in_runs;
+use crate::written::contracts_hold_in_runs;
 use ql_implication::countermodels_refute;
 use ql_parse::one_program_answer;
 use ql_verdicts::{accepted_lines_give_contracts, strong_uses_are_reported};

@@ -6,6 +6,12 @@
 
 mod calls;
 mod law;
+mod written;
 
 pub use calls::{answer, classify_and_verify, prove_and_check};
 pub use law::{headline, least_levels_are_one, reported_executions_fit, soundness};
+pub use written::{
+    contracts_hold_in_runs, generated_schedules_are_run, json_runs_are_read_again,
+    levels_are_least, printed_runs_are_verified, replicas_agree_in_runs,
+    what_is_printed_is_accepted,
+};

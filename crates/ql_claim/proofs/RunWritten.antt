@@ -8,7 +8,7 @@ use Rattle.ql_app.specs.declared.words.PairCommand.TheVariants.{Check, Verify, R
 use Rattle.ql_app.specs.Outcome.{Judges, Says}
 use Rattle.ql_reply.specs.Read.{IsRead}
 use Rattle.ql_reply.specs.Wrote.{Wrote}
-use Rattle.ql_app.specs.RunWritten.{WritesRun}
+use Rattle.ql_claim.specs.RunWritten.{WritesRun}
 use Rattle.ql_app.specs.Words.{NamedRequest, IsRequest, OneFile, TwoFiles, pair_words}
 use Rattle.ql_running.specs.declared.form.Form.{Form}
 use Rattle.ql_running.specs.declared.form.Form.TheVariants.{Text, Json}

@@ -7,7 +7,7 @@ use Rattle.ql_reply.specs.declared.status.Status.TheVariants.{Done, No, Usage}
 use Rattle.ql_app.specs.declared.words.Command.TheVariants.{Holds, Proof, Classify, ClassifyWhy, Prove, Gen, Soak}
 use Rattle.ql_app.specs.declared.words.PairCommand.TheVariants.{Check, Verify, Run, Slim, Restart}
 use Rattle.ql_running.specs.declared.form.Form.TheVariants.{Text, Json}
-use Rattle.ql_app.specs.LeastWritten.{WritesLeast, WritesNone}
+use Rattle.ql_claim.specs.LeastWritten.{WritesLeast, WritesNone}
 use Rattle.ql_app.specs.Outcome.{Judges, Says}
 use Rattle.ql_reply.specs.Read.{IsRead}
 use Rattle.ql_reply.specs.Wrote.{Wrote}

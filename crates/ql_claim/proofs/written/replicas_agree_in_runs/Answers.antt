@@ -1,4 +1,4 @@
-use Rattle.ql_app.proofs.laws.replicas_agree_in_runs.Goals as goal
+use Rattle.ql_claim.proofs.written.replicas_agree_in_runs.Goals as goal
 
 pub returns : goal.returns
 returns c = c.replicas_of_runs_agree.ensures

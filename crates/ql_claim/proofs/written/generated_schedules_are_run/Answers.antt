@@ -7,7 +7,7 @@ use Rattle.ql_gen.specs.Generated.{generated}
 use Rattle.ql_lines.specs.Lines.{ahead_from}
 use Rattle.ql_running.specs.declared.form.Form.{Form}
 use Rattle.ql_running.specs.Runs.{AreRunnable}
-use Rattle.ql_app.proofs.laws.generated_schedules_are_run.Goals as goal
+use Rattle.ql_claim.proofs.written.generated_schedules_are_run.Goals as goal
 
 runs : (source file text : List ℕ) (form : Form) (status : Status) → AreRunnable source file → PairSays (Run form) source file status text → (status ≡ Done) ⊎ (status ≡ No)
 runs source file text form Done runnable says = inl refl
