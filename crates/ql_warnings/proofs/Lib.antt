@@ -7,3 +7,4 @@ mod Clashing
 mod Joining
 mod Following
 mod Breaking
+mod Torn

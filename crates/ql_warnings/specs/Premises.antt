@@ -36,6 +36,10 @@ abbrev pub IsAlways : Program → Goal → List OpChoice → Statement → Bool 
 IsAlways p g vars s value =
     (x : List Effect) (inside : ℕ → Bool) (places : List ℕ) (cur : ℕ) → IsScene p g vars x places cur → statement_true x inside places cur s ≡ value
 
+-- the statement is false in each list of effects, at each choice of these, whichever are inside the current transaction
+abbrev pub IsNeverTrue : Statement → Type 0
+IsNeverTrue s = (x : List Effect) (inside : ℕ → Bool) (places : List ℕ) (cur : ℕ) → statement_true x inside places cur s ≡ false
+
 -- ---- premises
 
 -- a statement on the left of an `=>` of a contract that isn't itself within such a premise

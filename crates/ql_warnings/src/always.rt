@@ -9,6 +9,7 @@ ghost use Rattle.ql_warnings.specs.Known.{IsKnown, PartsKept};
 
 use crate::clash::{Scene, has_clash};
 use crate::known::{Known, gives, push_known};
+use crate::transactions::never_holds;
 use ql_base::NoMemory;
 use ql_lang::{Body, Rel};
 use std::alloc::Global;
@@ -43,6 +44,9 @@ pub(crate) fn is_given(
             Ok(is_given(alloc, scene, known, left)? || is_given(alloc, scene, known, right)?)
         }
         Body::Implies(left, right) => {
+            if never_holds(left) {
+                return Ok(true);
+            }
             let more = with_parts(alloc, known, left)?;
             if has_clash(scene, &more) {
                 return Ok(true);

@@ -13,6 +13,7 @@ mod next;
 mod others;
 mod place;
 mod premises;
+mod transactions;
 mod unbracketed;
 mod warning;
 mod words;
