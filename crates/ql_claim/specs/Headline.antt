@@ -9,7 +9,7 @@ use Rattle.ql_classify.specs.Targets.{goals_at}
 use Rattle.ql_commands.specs.Certificates.{SpellsCert}
 use Rattle.ql_commands.specs.Prove.{IsSectionOf}
 use Rattle.ql_commands.specs.Sources.{IsSourceOf}
-use Rattle.ql_headline.specs.Stores.{rules_of}
+use Rattle.ql_running.specs.Stores.{rules_of}
 use Rattle.ql_classify.specs.Least.{AreLeast}
 use Rattle.ql_lang.specs.declared.program.Program.{Program}
 use Rattle.ql_levels.specs.Lists.{LevelLists}

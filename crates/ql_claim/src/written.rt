@@ -10,7 +10,7 @@ ghost use Rattle.ql_claim.specs.LeastWritten.{WritesLeast, WritesNone};
 ghost use Rattle.ql_claim.specs.RunWritten.{WritesJson, WritesRun};
 ghost use Rattle.ql_app.specs.Words.{IsInRange};
 ghost use Rattle.ql_gen.specs.Generated.{generated};
-ghost use Rattle.ql_headline.specs.Stores.{rules_of};
+ghost use Rattle.ql_running.specs.Stores.{rules_of};
 ghost use Rattle.ql_machine.specs.Promised.{AllArrived};
 ghost use Rattle.ql_running.specs.declared.form.Form.{Form};
 ghost use Rattle.ql_running.specs.declared.form.Form.TheVariants.{Text};

@@ -16,7 +16,7 @@ use Rattle.ql_exec.specs.Execution.{next_id}
 use Rattle.ql_machine.specs.Kept.{Keeps}
 use Rattle.ql_machine.proofs.Keeping.{keeps-empty, keeps-step}
 use Rattle.ql_machine.proofs.Lists.{all-kept, received-kept}
-use Rattle.ql_watched.specs.Watching.{Watches, nothing, more, new_ids}
+use Rattle.ql_runs.specs.Watching.{Watches, nothing, more, new_ids}
 use Rattle.ql_restart.specs.Progress.{AreDistinct, CanRecover}
 use Rattle.ql_restart.proofs.Counting.{below-absent}
 

@@ -5,7 +5,7 @@ use Rattle.ql_reply.specs.declared.status.Status.{Status}
 use Rattle.ql_reply.specs.declared.status.Status.TheVariants.{Done, No}
 use Rattle.ql_classify.specs.Least.{AreLevelsOf}
 use Rattle.ql_commands.specs.Sources.{IsSourceOf}
-use Rattle.ql_headline.specs.Stores.{rules_of}
+use Rattle.ql_running.specs.Stores.{rules_of}
 use Rattle.ql_lang.specs.declared.program.Program.{Program}
 use Rattle.ql_levels.specs.Lists.{LevelLists}
 use Rattle.ql_lines.specs.Lines.{ahead_from}
@@ -17,7 +17,7 @@ use Rattle.ql_holder.specs.Closed.{Closed, Has}
 use Rattle.ql_running.specs.Runs.{NoRunSays}
 use Rattle.ql_schedule.specs.declared.schedule.Schedule.{Schedule}
 use Rattle.ql_schedule.specs.Files.{IsScheduleFile}
-use Rattle.ql_watched.specs.Watching.{Watches}
+use Rattle.ql_runs.specs.Watching.{Watches}
 use Rattle.ql_restart.specs.Journaled.{IsJournaled}
 
 -- a line of a word and ids

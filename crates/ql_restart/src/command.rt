@@ -12,7 +12,7 @@ use ql_base::{NoMemory, ReplicaId, push_bytes, push_number};
 use ql_replica::Replica;
 use ql_reply::{Cause, Reply, Status};
 use ql_running::{RunInput, read_run_input};
-use ql_watched::watched_run;
+use ql_runs::watched_run;
 use std::alloc::Global;
 
 /// What a replica has after a run of a schedule at the least levels of a source's program, when it journals all that it

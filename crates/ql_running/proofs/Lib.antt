@@ -1,2 +1,3 @@
 mod OfRuns
 mod Saying
+pub mod AtLevels

@@ -11,7 +11,7 @@ use Rattle.ql_base.specs.declared.ids.TypeId.{TypeId}
 use Rattle.ql_exec.specs.declared.effect.Effect.{Effect}
 use Rattle.ql_exec.specs.Effects.{effect_at}
 use Rattle.ql_exec.proofs.Finding.{cases_pushed}
-use Rattle.ql_headline.specs.Stores.{IsScheduleFor, is_of_type}
+use Rattle.ql_running.specs.Stores.{IsScheduleFor, is_of_type}
 use Rattle.ql_lang.specs.declared.program.Program.{Program}
 use Rattle.ql_machine.specs.declared.event.Event.{Event}
 use Rattle.ql_machine.specs.declared.event.Event.TheVariants.{Call, Begin, Commit, Deliver, Repeat, Lose, Resend, Partition, Heal, Join}

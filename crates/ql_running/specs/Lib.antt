@@ -2,3 +2,4 @@ pub mod ScheduleFaults
 pub mod Soundness
 pub mod Runs
 pub mod Forms
+pub mod Stores

@@ -6,7 +6,7 @@ use Rattle.ql_classify.specs.Least.{AreLevelsOf}
 use Rattle.ql_commands.specs.Levels.{RefusalSays}
 use Rattle.ql_commands.specs.Sources.{BadSourceSays, IsSourceOf}
 use Rattle.ql_exec.specs.declared.effect.Effect.{Effect}
-use Rattle.ql_headline.specs.Stores.{rules_of}
+use Rattle.ql_running.specs.Stores.{rules_of}
 use Rattle.ql_lang.specs.declared.program.Program.{Program}
 use Rattle.ql_levels.specs.Lists.{LevelLists}
 use Rattle.ql_lines.specs.Lines.{ahead_from}

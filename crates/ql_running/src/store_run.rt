@@ -1,6 +1,6 @@
 ghost use Rattle.std.specs.Prelude.{◌≡◌, All, length, IfOk};
 ghost use Rattle.ql_classify.specs.Least.{AreLevelsOf};
-ghost use Rattle.ql_headline.specs.Stores.{rules_of};
+ghost use Rattle.ql_running.specs.Stores.{rules_of};
 ghost use Rattle.ql_machine.specs.Runs.{IsRun, replicas_at_end};
 ghost use Rattle.ql_run_text.specs.EffectTexts.{AreNamed};
 ghost use Rattle.ql_run_text.specs.ReplyTexts.{AreAnswered};

@@ -1,3 +1,4 @@
 pub mod Effects
 pub mod Counts
 pub mod Going
+pub mod WatchLaws

@@ -4,7 +4,7 @@ use Rattle.ql_reply.specs.declared.status.Status.{Status}
 use Rattle.ql_reply.specs.declared.status.Status.TheVariants.{Done}
 use Rattle.ql_classify.specs.Least.{AreLevelsOf}
 use Rattle.ql_commands.specs.Sources.{IsSourceOf}
-use Rattle.ql_headline.specs.Stores.{rules_of}
+use Rattle.ql_running.specs.Stores.{rules_of}
 use Rattle.ql_lang.specs.declared.program.Program.{Program}
 use Rattle.ql_levels.specs.Lists.{LevelLists}
 use Rattle.ql_lines.specs.Lines.{ahead_from}

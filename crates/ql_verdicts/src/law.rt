@@ -1,7 +1,7 @@
 ghost use Rattle.std.specs.Prelude.{◌≡◌, ◌⊎◌, ℕ, List};
 ghost use Rattle.ql_exec.specs.declared.effect.Effect.{Effect};
 ghost use Rattle.ql_formula.specs.Truth.{Holds, HoldsTxn};
-ghost use Rattle.ql_headline.specs.Stores.{rules_of};
+ghost use Rattle.ql_running.specs.Stores.{rules_of};
 ghost use Rattle.ql_judging.specs.Verify.{VerifySays};
 ghost use Rattle.ql_reply.specs.declared.status.Status.{Status};
 ghost use Rattle.ql_reply.specs.declared.status.Status.TheVariants.{Done, TooLarge};

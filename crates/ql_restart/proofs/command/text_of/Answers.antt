@@ -1,7 +1,7 @@
 use Rattle.std.proofs.Common.{List, ℕ, refl, sym, subst}
 use Rattle.std.proofs.lemmas.Result.{IfOk-weaker}
-use Rattle.ql_headline.specs.Stores.{rules_of}
-use Rattle.ql_watched.specs.Watching.{Watches}
+use Rattle.ql_running.specs.Stores.{rules_of}
+use Rattle.ql_runs.specs.Watching.{Watches}
 use Rattle.ql_restart.specs.Progress.{CanRecover}
 use Rattle.ql_restart.specs.Restarts.{IsRestartText}
 use Rattle.ql_restart.proofs.Arrivals.{can_recover}

@@ -1,5 +1,5 @@
 use Rattle.std.proofs.Common.{refl, sym, ap}
-use Rattle.ql_headline.specs.Stores.{rules_of}
+use Rattle.ql_running.specs.Stores.{rules_of}
 use Rattle.ql_machine.specs.Runs.{IsRun}
 use Rattle.ql_running.proofs.OfRuns.{run-answers, run-named}
 use Rattle.ql_store.specs.Levels.{promises_of}

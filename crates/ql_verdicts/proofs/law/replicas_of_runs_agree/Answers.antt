@@ -1,4 +1,4 @@
-use Rattle.ql_headline.specs.Stores.{rules_of}
+use Rattle.ql_running.specs.Stores.{rules_of}
 use Rattle.ql_verdicts.proofs.law.replicas_of_runs_agree.Goals as goal
 
 pub returns : goal.returns

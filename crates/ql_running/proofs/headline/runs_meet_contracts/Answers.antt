@@ -1,7 +1,7 @@
 use Rattle.ql_machine.proofs.Growth.{answers-hold}
-use Rattle.ql_headline.specs.Stores.{rules_of}
-use Rattle.ql_headline.proofs.AtLevels.{op-contract, run-fits, txn-contract}
-use Rattle.ql_headline.proofs.headline.runs_meet_contracts.Goals as goal
+use Rattle.ql_running.specs.Stores.{rules_of}
+use Rattle.ql_running.proofs.AtLevels.{op-contract, run-fits, txn-contract}
+use Rattle.ql_running.proofs.headline.runs_meet_contracts.Goals as goal
 
 pub returns-clause-fits : goal.returns-clause-fits
 returns-clause-fits c = run-fits

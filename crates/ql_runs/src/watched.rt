@@ -10,7 +10,7 @@ ghost use Rattle.ql_schedule.specs.Guarantees.{IsSchedule};
 ghost use Rattle.ql_store.specs.Conditions.{HasRoom, IsAnswerable};
 ghost use Rattle.ql_store.specs.Events.{IsInRange};
 ghost use Rattle.ql_store.specs.Levels.{HasLevelOfEach, promises_of, uses_of};
-ghost use Rattle.ql_watched.specs.Watching.{Watches, new_ids};
+ghost use Rattle.ql_runs.specs.Watching.{Watches, new_ids};
 
 use ql_base::{IdSet, NoMemory, ReplicaId};
 use ql_eval::TypedFolder;

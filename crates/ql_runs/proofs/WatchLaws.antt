@@ -25,7 +25,7 @@ use Rattle.ql_machine.specs.Runs.{IsRun, stop}
 use Rattle.ql_store.specs.Conditions.{HasRoom, IsAnswerable}
 use Rattle.ql_store.specs.Events.{IsInRange}
 use Rattle.ql_runs.proofs.Going.{AreRulesOf, can-go, leads-on, own_rules}
-use Rattle.ql_watched.specs.Watching.{Watches, nothing, more, new_ids}
+use Rattle.ql_runs.specs.Watching.{Watches, nothing, more, new_ids}
 
 -- ---- a step adds one effect at most, and takes none away
 

@@ -1,7 +1,7 @@
 use Rattle.std.proofs.Common.{◌≡◌, ◌∙◌, ap, sym}
 use Rattle.ql_store.specs.Levels.{promises_of}
 use Rattle.ql_store.specs.State.{StoreState}
-use Rattle.ql_watched.proofs.watched.watched_run.Goals as goal
+use Rattle.ql_runs.proofs.watched.watched_run.Goals as goal
 
 pub returns-in-Ok-clause-watched : goal.returns-in-Ok-clause-watched
 returns-in-Ok-clause-watched g c =

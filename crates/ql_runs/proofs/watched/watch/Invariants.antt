@@ -1,7 +1,7 @@
 use Rattle.std.proofs.Common.{◌≡◌, length}
 use Rattle.std.specs.Vec.Iter.{into_iter_items, into_iter_len}
-use Rattle.ql_watched.proofs.WatchLaws.{IsWatching}
-use Rattle.ql_watched.proofs.watched.watch.Given as goal
+use Rattle.ql_runs.proofs.WatchLaws.{IsWatching}
+use Rattle.ql_runs.proofs.watched.watch.Given as goal
 
 abbrev pub invariant-loop-event : goal.invariant-loop-event
 invariant-loop-event g l =

@@ -16,7 +16,7 @@ ghost use Rattle.ql_machine.specs.declared.reply.Reply.{Reply};
 ghost use Rattle.ql_machine.specs.State.{Machine};
 ghost use Rattle.ql_machine.specs.Runs.{IsRun};
 ghost use Rattle.ql_machine.specs.Promised.{IsUnderName};
-ghost use Rattle.ql_headline.specs.Stores.{IsScheduleFor, rules_of};
+ghost use Rattle.ql_running.specs.Stores.{IsScheduleFor, rules_of};
 
 /// The law of contracts in runs. For every schedule whose calls are of operations of their objects' types, the
 /// effects of its run are an execution of the program (`fits`), and each answer is the fold of its type over

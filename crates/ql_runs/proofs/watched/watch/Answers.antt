@@ -13,8 +13,8 @@ use Rattle.ql_store.specs.Events.{IsInRange}
 use Rattle.ql_store.specs.Levels.{HasLevelOfEach}
 use Rattle.ql_machine.specs.State.{Machine}
 use Rattle.ql_value.specs.declared.value.Value.{Value}
-use Rattle.ql_watched.proofs.WatchLaws.{IsWatching, starts, may_go, goes, ends, few}
-use Rattle.ql_watched.proofs.watched.watch.Goals as goal
+use Rattle.ql_runs.proofs.WatchLaws.{IsWatching, starts, may_go, goes, ends, few}
+use Rattle.ql_runs.proofs.watched.watch.Goals as goal
 
 pub loop-event-init : goal.loop-event-init
 loop-event-init g c =
