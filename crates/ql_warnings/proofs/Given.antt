@@ -1,5 +1,5 @@
 -- What follows from known relations.
-use Rattle.std.proofs.Common.{◌≡◌, ℕ, zero, suc, Bool, true, false, not, ◌||◌, inl, inr, List, [], ◌∷◌, ◌++◌, Result, Ok, Err, ◌≢◌, refl, sym, subst, arith, ◌∙◌}
+use Rattle.std.proofs.Common.{◌≡◌, ℕ, zero, suc, Bool, true, false, not, ◌||◌, inl, inr, List, [], ◌∷◌, ◌++◌, Result, Ok, Err, ◌≢◌, refl, sym, subst, arith}
 use Rattle.std.specs.Prelude.{IfOk, OnOk}
 use Rattle.ql_base.specs.declared.no_memory.NoMemory.{NoMemory}
 use Rattle.std.proofs.lemmas.Bool.{and_from}
@@ -15,7 +15,7 @@ use Rattle.ql_exec.specs.Execution.{IsExecution}
 use Rattle.ql_formula.specs.Truth.{statement_true}
 use Rattle.ql_warnings.specs.Clashes.{CantHold, IsGiven}
 use Rattle.ql_warnings.specs.Known.{IsKnown, IsPartOf, PartsKept}
-use Rattle.ql_warnings.specs.Premises.{AsksNothing, IsAlways, IsContract, IsNeverTrue, said}
+use Rattle.ql_warnings.specs.Premises.{AsksNothing, IsAlways, IsContract, said}
 use Rattle.ql_warnings.specs.declared.known.Known.{Known}
 use Rattle.ql_warnings.proofs.Scenes.{parts_known}
 
@@ -82,10 +82,6 @@ module _ (p : Program) (g : Goal) (vars : List OpChoice) (known : List Known) wh
   pub given_clash : (s r : Statement) (more : List Known) → PartsKept s known more → CantHold p g vars more → IsGiven p g vars known (IfThen s r)
   given_clash s r more kept cant x inside places cur scene all =
       implies (statement_true x inside places cur s) (statement_true x inside places cur r) (λ h. absurd (cant x places cur scene (more_known x inside places cur s known more kept all h)))
-
-  pub given_never : (s r : Statement) → IsNeverTrue s → IsGiven p g vars known (IfThen s r)
-  given_never s r never x inside places cur scene all =
-      implies (statement_true x inside places cur s) (statement_true x inside places cur r) (λ h. absurd (let no : false ≡ true = sym (never x inside places cur) ∙ h in cc))
 
   pub given_known : (wanted : Known) → ((x : List Effect) → IsExecution x → (places : List ℕ) (cur : ℕ) → All (IsKnown x places cur) known → IsKnown x places cur wanted) → IsGiven p g vars known (said wanted)
   given_known wanted holds x inside places cur scene all = holds x scene.lawful places cur all

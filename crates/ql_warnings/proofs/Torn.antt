@@ -3,7 +3,7 @@ use Rattle.std.proofs.Common.{◌≡◌, ℕ, Bool, true, false, not, ◌&&◌, 
 use Rattle.std.specs.List.{list_all}
 use Rattle.std.proofs.lemmas.List.Sums.{AllPass-from_list_all}
 use Rattle.std.proofs.lemmas.Option.{get_or_from_slice_get, slice_get_within}
-use Rattle.ql_lang.specs.Formulas.{Statement, BothOf, InOneTxn}
+use Rattle.ql_lang.specs.Formulas.{InOneTxn}
 use Rattle.ql_lang.specs.declared.formula.Term.{Term}
 use Rattle.ql_exec.specs.declared.effect.Effect.{Effect}
 use Rattle.ql_formula.specs.Truth.{place_of, statement_true, together}
@@ -25,17 +25,3 @@ pub torn : (members others : List Term) → (i j : ℕ) × (t : Term) × (slice_
 torn members others (i, j, t, is, other) x inside places cur =
     never (list_all (λ u. inside (place_of places cur u)) members) (list_all (λ u. not (inside (place_of places cur u))) others) (together x (place_of places cur) others)
     (λ inner outer. clash (inside (place_of places cur t)) (passes (λ u. inside (place_of places cur u)) members i t inner is) (passes (λ u. not (inside (place_of places cur u))) others j t outer other))
-
-left_false : (a b : Bool) → a ≡ false → (a && b) ≡ false
-left_false false b no = refl
-left_false true b no = absurd (cc)
-
-right_false : (a b : Bool) → b ≡ false → (a && b) ≡ false
-right_false false b no = refl
-right_false true b no = no
-
-pub left_never : (p q : Statement) → IsNeverTrue p → IsNeverTrue (BothOf p q)
-left_never p q no x inside places cur = left_false (statement_true x inside places cur p) (statement_true x inside places cur q) (no x inside places cur)
-
-pub right_never : (p q : Statement) → IsNeverTrue q → IsNeverTrue (BothOf p q)
-right_never p q no x inside places cur = right_false (statement_true x inside places cur p) (statement_true x inside places cur q) (no x inside places cur)
