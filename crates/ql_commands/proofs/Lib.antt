@@ -9,5 +9,4 @@ pub mod Expected
 pub mod Report
 pub mod SameProblems
 pub mod Accepted
-pub mod SmallBodies
 pub mod SourceReplies

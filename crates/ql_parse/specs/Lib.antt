@@ -3,6 +3,3 @@ pub mod Readings
 pub mod Precedences
 pub mod Parsing
 pub mod Junctions
-pub mod Printed
-pub mod PrintedPrograms
-pub mod Prefixes

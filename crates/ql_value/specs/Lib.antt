@@ -8,4 +8,3 @@ pub mod Places
 pub mod Spelling
 pub mod Reading
 pub mod ValueGrammar
-pub mod ValuePrefixes

@@ -1,6 +1,6 @@
 // The values of fields, arguments and answers: numbers, truth values, texts, sets and maps.
-// Its one contract: arithmetic saturates, sets and maps are strictly ascending and of bounded size, and the text of a value
-// is read back as that value, or its first fault is reported, before which is the beginning of a value's text.
+// Its one contract: arithmetic saturates, sets and maps are strictly ascending and of bounded size,
+// and the text of a value is read back as that value, or its first fault is reported.
 #![tactic(auto)]
 
 mod contents;
@@ -15,7 +15,6 @@ mod saturating;
 mod scalar;
 mod sets;
 mod value;
-mod value_prefixes;
 
 pub use contents::{has, size};
 pub use copying::{copy, copy_map, copy_scalar, copy_set, copy_text};
@@ -28,4 +27,3 @@ pub use saturating::{sat_add, sat_mul, sat_neg, sat_sub};
 pub use scalar::{Scalar, TextVal};
 pub use sets::{add, remove, union};
 pub use value::{MapVal, SetVal, Value, Values};
-pub use value_prefixes::values_begin_before_faults;

@@ -1,0 +1,4 @@
+pub mod Printed
+pub mod PrintedPrograms
+pub mod Prefixes
+pub mod ValuePrefixes
