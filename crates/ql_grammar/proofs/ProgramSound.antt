@@ -229,7 +229,7 @@ more_operations (suc fuel) reads (go h) le =
     let o = split_operation h in
     let c = changed o.has in
     let less = through (before c.less) o.less in
-    wider _ (up less) (more_operations fuel (grammar.more reads o.reads) c.has (through less (both_less {size h} {fuel} le)))
+    wider _ (up less) (more_operations fuel (grammar.more reads o.reads) c.has (through less (both_less {a = size h} {b = fuel} le)))
 
 split_operations : {ts : List Marked} {below : List Sym} {vs out : List Value} → (h : Has (operations_symbols below) vs ts out) → Split grammar.ReadsOperations TheOperations below vs ts out (size h)
 split_operations h =
@@ -258,7 +258,7 @@ more_types (suc fuel) reads (go h) le =
     let t = split_type h in
     let c = changed t.has in
     let less = through (before c.less) t.less in
-    wider _ (up less) (more_types fuel (grammar.more reads t.reads) c.has (through less (both_less {size h} {fuel} le)))
+    wider _ (up less) (more_types fuel (grammar.more reads t.reads) c.has (through less (both_less {a = size h} {b = fuel} le)))
 
 -- transactions
 
@@ -278,7 +278,7 @@ more_transactions (suc fuel) reads (go h) le =
     let t = split_transaction h in
     let c = changed t.has in
     let less = through (before c.less) t.less in
-    wider _ (up less) (more_transactions fuel (grammar.more reads t.reads) c.has (through less (both_less {size h} {fuel} le)))
+    wider _ (up less) (more_transactions fuel (grammar.more reads t.reads) c.has (through less (both_less {a = size h} {b = fuel} le)))
 
 -- whole sources
 
