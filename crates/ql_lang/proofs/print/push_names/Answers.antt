@@ -1,4 +1,4 @@
-use Rattle.std.proofs.Common.{◌++◌, ◌∙◌, ap, codes, map}
+use Rattle.std.proofs.Common.{◌++◌, ◌∙◌, ap, map}
 use Rattle.std.proofs.lemmas.List.{drop_all}
 use Rattle.ql_lang.specs.Spelling.{word_of}
 use Rattle.ql_lang.proofs.Appending.{from_start, none_listed, one_listed, taken}

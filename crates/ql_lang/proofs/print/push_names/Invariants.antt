@@ -1,4 +1,4 @@
-use Rattle.std.proofs.Common.{◌≡◌, ◌++◌, map, drop, codes}
+use Rattle.std.proofs.Common.{◌≡◌, ◌++◌, map, drop}
 use Rattle.ql_lang.specs.Spelling.{listed, word_of}
 use Rattle.ql_lang.proofs.Appending.{continued}
 use Rattle.ql_lang.proofs.print.push_names.Given as goal
