@@ -1,4 +1,5 @@
 pub mod TerminalLemmas
+mod LongMarks
 pub mod Wanted
 pub mod Leading
 pub mod Operators

@@ -9,14 +9,14 @@ use Rattle.ql_lang.specs.declared.program.InitNode.TheVariants as init_node
 use Rattle.ql_lang.specs.Expressions.{Expression}
 use Rattle.ql_lang.specs.Trees.{Sentence}
 use Rattle.ql_lang.specs.Programs.{Binding, Assignment, Emission, Operation, Replicated, Transaction}
-use Rattle.ql_grammar.specs.declared.terminal.Terminal.TheVariants.{NameToken, IntToken, TextToken, TypeWord, OpWord, ContractWord, AnswerWord, EmitWord, WhenWord, ApplyWord, TrueWord, FalseWord, UnitWord, EmptyWord, IntWord, BoolWord, TextWord, SetWord, MapWord, OpenBrace, CloseBrace, OpenParen, CloseParen, Comma, Semicolon, Colon, Minus}
+use Rattle.ql_grammar.specs.declared.terminal.Terminal.TheVariants.{NameToken, IntToken, TextToken, TypeWord, OpWord, ContractWord, AnswerWord, EmitWord, WhenWord, ApplyWord, TransactionWord, UsesWord, TrueWord, FalseWord, UnitWord, EmptyWord, IntWord, BoolWord, TextWord, SetWord, MapWord, OpenBrace, CloseBrace, OpenParen, CloseParen, Comma, Semicolon, Colon, Minus}
 use Rattle.ql_grammar.specs.declared.role.Role.TheVariants.{Plain, Before}
 use Rattle.ql_grammar.specs.Tokens.{Marked, marked}
 use Rattle.ql_grammar.specs.ContractGrammar.{ReadsContract, ReadsNames}
 use Rattle.ql_grammar.specs.ContractGrammar as contracts
 use Rattle.ql_grammar.specs.ExpressionGrammar.{Chosen, ReadsExpr}
 use Rattle.ql_grammar.specs.ProgramGrammar as grammar
-use Rattle.ql_grammar.specs.Table.{Value, APlace, AName, TheNames, TheFields, TheParams, TheBindings, TheAssignments, AnExpr, AnEffect, AKind, ASentence, AnOperation, TheOperations, AType, TheTypes, TheTransactions, Sym, Word, Placed, ANameOf, Kept, Do, APart, Then, BaseKind, AnyKind, Beginning, ListedNames, WholeSource, MoreFields, SomeParams, MoreParams, MoreListed, MoreBindings, MoreAssignments, Effect, MoreOperations, MoreTypes, MoreTransactions, base_ways, kind_ways, beginning_ways, test_symbols, assignments_symbols, body_symbols, operation_symbols, operations_symbols, type_symbols, add_base, add_kind, to_set, to_map, begin_number, begin_negative, begin_text, begin_with, to_names, to_types, no_transactions, to_source, set_effect, to_operation, to_type}
+use Rattle.ql_grammar.specs.Table.{Value, APlace, AName, TheNames, TheFields, TheParams, ABinding, TheBindings, TheAssignments, AnExpr, AnEffect, AKind, ASentence, AnOperation, TheOperations, AType, TheTypes, ATransaction, TheTransactions, Sym, Word, Placed, ANameOf, Kept, Do, APart, Then, BaseKind, AnyKind, Beginning, ListedNames, WholeContract, WholeSource, MoreFields, SomeParams, MoreParams, MoreListed, MoreBindings, MoreAssignments, Effect, MoreOperations, MoreTypes, MoreTransactions, base_ways, kind_ways, beginning_ways, binding_symbols, test_symbols, assignments_symbols, body_symbols, operation_symbols, operations_symbols, transaction_symbols, type_symbols, add_base, add_kind, to_set, to_map, begin_number, begin_negative, begin_text, begin_with, to_names, to_types, no_transactions, to_source, set_effect, to_operation, to_transaction, to_type}
 use Rattle.ql_grammar.proofs.Wanted.{Has, Widens, none, word, placed, name, kept, operator, change, term, terms, relation, prop, names, variable, vars, contract, expr, arguments, base, kind, init, listed, source, stop, go}
 use Rattle.ql_grammar.proofs.Leading.{Leads}
 
@@ -168,9 +168,25 @@ split_params : {ts : List Marked} {below : List Sym} {vs out : List Value} → (
 split_params (stop h) = record { rest = _; tree = []; reads = grammar.none; has = h; less = up (same _) }
 split_params (go (name (word (base b (change h))))) = wider _ (up3 (up (up (same _)))) (split_some_params (grammar.one (grammar.param b)) h)
 
-split_bindings : {ts rest : List Marked} {bs : List Binding} {below : List Sym} {vs out : List Value} → grammar.ReadsBindings ts rest bs → (h : Has (Then MoreBindings ∷ below) (TheBindings bs ∷ vs) rest out) → Split grammar.ReadsBindings TheBindings below vs ts out (size h)
-split_bindings reads (stop h) = record { rest = _; tree = _; reads = reads; has = h; less = up (same _) }
-split_bindings reads (go (word (name (word (base b (word (expr e (change (change h))))))))) = wider _ (up3 (up3 (up3 (same _)))) (split_bindings (grammar.more reads (grammar.binding b e)) h)
+-- a change of the values is passed
+record Changed (f : List Value → List Value) (below : List Sym) (vs : List Value) (ts : List Marked) (out : List Value) (most : ℕ) : Type 0 where
+  pub has : Has below (f vs) ts out
+  pub less : suc (size has) ≤ most
+
+changed : {f : List Value → List Value} {below : List Sym} {vs out : List Value} {ts : List Marked} → (h : Has (Do f ∷ below) vs ts out) → Changed f below vs ts out (size h)
+changed (change h) = record { has = h; less = same _ }
+
+split_binding : {ts : List Marked} {below : List Sym} {vs out : List Value} → (h : Has (binding_symbols below) vs ts out) → Split grammar.ReadsBinding ABinding below vs ts out (size h)
+split_binding (name (word (base b (word (expr e (change h)))))) = record { rest = _; tree = _; reads = grammar.binding b e; has = h; less = up3 (up3 (same _)) }
+
+more_bindings : (fuel : ℕ) {ts rest : List Marked} {bs : List Binding} {below : List Sym} {vs out : List Value} → grammar.ReadsBindings ts rest bs → (h : Has (Then MoreBindings ∷ below) (TheBindings bs ∷ vs) rest out) → size h ≤ fuel → Split grammar.ReadsBindings TheBindings below vs ts out (size h)
+more_bindings fuel reads (stop h) le = record { rest = _; tree = _; reads = reads; has = h; less = up (same _) }
+more_bindings zero reads (go h) le = absurd (none_less le)
+more_bindings (suc fuel) reads (go (word h)) le =
+    let b = split_binding h in
+    let c = changed b.has in
+    let less = through (before c.less) b.less in
+    wider _ (up (up less)) (more_bindings fuel (grammar.more reads b.reads) c.has (through less (before (both_less {a = suc (size h)} {b = fuel} le))))
 
 split_assignments : {ts rest : List Marked} {changes : List Assignment} {below : List Sym} {vs out : List Value} → grammar.ReadsAssignments ts rest changes → (h : Has (Then MoreAssignments ∷ below) (TheAssignments changes ∷ vs) rest out) → Split grammar.ReadsAssignments TheAssignments below vs ts out (size h)
 split_assignments reads (stop h) = record { rest = _; tree = _; reads = reads; has = h; less = up (same _) }
@@ -191,9 +207,11 @@ effect_test bs (word (expr e (word (word (word (change h)))))) =
 
 split_effect : {ts : List Marked} {below : List Sym} {vs out : List Value} → (h : Has (Then Effect ∷ below) (AnEffect None ∷ vs) ts out) → IsEffect below vs ts out (size h)
 split_effect (stop h) = record { rest = _; tree = None; reads = grammar.none; has = h; less = up (same _) }
-split_effect (go (word (name (word (base b (word (expr e (change (change h))))))))) =
-    let bs = split_bindings (grammar.one (grammar.binding b e)) h in
-    wider _ (up3 (up3 (up3 bs.less))) (effect_test bs.reads bs.has)
+split_effect (go (word h)) =
+    let b = split_binding h in
+    let c = changed b.has in
+    let bs = more_bindings (size c.has) (grammar.one b.reads) c.has (same _) in
+    wider _ (up (up (through bs.less (through (before c.less) b.less)))) (effect_test bs.reads bs.has)
 
 -- operations
 
@@ -214,14 +232,6 @@ split_operation (placed (name (word (change h)))) =
     let ps = split_params h in
     wider _ (up3 (up ps.less)) (operation_body ps.reads ps.has)
 
--- a change of the values is passed
-record Changed (f : List Value → List Value) (below : List Sym) (vs : List Value) (ts : List Marked) (out : List Value) (most : ℕ) : Type 0 where
-  pub has : Has below (f vs) ts out
-  pub less : suc (size has) ≤ most
-
-changed : {f : List Value → List Value} {below : List Sym} {vs out : List Value} {ts : List Marked} → (h : Has (Do f ∷ below) vs ts out) → Changed f below vs ts out (size h)
-changed (change h) = record { has = h; less = same _ }
-
 more_operations : (fuel : ℕ) {ts rest : List Marked} {os : List Operation} {below : List Sym} {vs out : List Value} → grammar.ReadsOperations ts rest os → (h : Has (Then MoreOperations ∷ below) (TheOperations os ∷ vs) rest out) → size h ≤ fuel → Split grammar.ReadsOperations TheOperations below vs ts out (size h)
 more_operations fuel reads (stop h) le = record { rest = _; tree = _; reads = reads; has = h; less = up (same _) }
 more_operations zero reads (go h) le = absurd (none_less le)
@@ -229,7 +239,7 @@ more_operations (suc fuel) reads (go h) le =
     let o = split_operation h in
     let c = changed o.has in
     let less = through (before c.less) o.less in
-    wider _ (up less) (more_operations fuel (grammar.more reads o.reads) c.has (through less (both_less le)))
+    wider _ (up less) (more_operations fuel (grammar.more reads o.reads) c.has (through less (both_less {a = size h} {b = fuel} le)))
 
 split_operations : {ts : List Marked} {below : List Sym} {vs out : List Value} → (h : Has (operations_symbols below) vs ts out) → Split grammar.ReadsOperations TheOperations below vs ts out (size h)
 split_operations h =
@@ -258,13 +268,27 @@ more_types (suc fuel) reads (go h) le =
     let t = split_type h in
     let c = changed t.has in
     let less = through (before c.less) t.less in
-    wider _ (up less) (more_types fuel (grammar.more reads t.reads) c.has (through less (both_less le)))
+    wider _ (up less) (more_types fuel (grammar.more reads t.reads) c.has (through less (both_less {a = size h} {b = fuel} le)))
 
 -- transactions
 
-split_transactions : {ts rest : List Marked} {txns : List Transaction} {below : List Sym} {vs out : List Value} → grammar.ReadsTransactions ts rest txns → (h : Has (Then MoreTransactions ∷ below) (TheTransactions txns ∷ vs) rest out) → Split grammar.ReadsTransactions TheTransactions below vs ts out (size h)
-split_transactions reads (stop h) = record { rest = _; tree = _; reads = reads; has = h; less = up (same _) }
-split_transactions reads (go (placed (name (word (word (listed ns (word (word (contract c (word (word (change (change h))))))))))))) = wider _ (up3 (up3 (up3 (up3 (up (same _)))))) (split_transactions (grammar.more reads (grammar.transaction ns c)) h)
+abbrev IsTransaction : List Sym → List Value → List Marked → List Value → ℕ → Type 0
+IsTransaction below vs ts out most = Split grammar.ReadsTransaction ATransaction below vs ts out most
+
+transaction_end : {x1 x2 x3 x4 x5 x6 : List ℕ} {n1 n2 n3 n4 n5 n6 : ℕ} {ts us : List Marked} {ns : List Name} {below : List Sym} {vs out : List Value} → ReadsNames Comma ts (marked Plain Semicolon x5 n5 ∷ marked Before ContractWord x6 n6 ∷ us) ns → (h : Has (APart WholeContract ∷ Word Semicolon Plain ∷ Word CloseBrace Plain ∷ Do to_transaction ∷ below) (TheNames ns ∷ AName (record { word = x2; at = n2 }) ∷ APlace n1 ∷ vs) us out) → IsTransaction below vs (marked Plain TransactionWord x1 n1 ∷ marked Plain NameToken x2 n2 ∷ marked Plain OpenBrace x3 n3 ∷ marked Plain UsesWord x4 n4 ∷ ts) out (size h)
+transaction_end ns (contract c (word (word (change h)))) = record { rest = _; tree = _; reads = grammar.transaction ns c; has = h; less = up3 (up (same _)) }
+
+split_transaction : {ts : List Marked} {below : List Sym} {vs out : List Value} → (h : Has (transaction_symbols below) vs ts out) → IsTransaction below vs ts out (size h)
+split_transaction (placed (name (word (word (listed ns (word (word h))))))) = wider _ (up3 (up3 (up (same _)))) (transaction_end ns h)
+
+more_transactions : (fuel : ℕ) {ts rest : List Marked} {txns : List Transaction} {below : List Sym} {vs out : List Value} → grammar.ReadsTransactions ts rest txns → (h : Has (Then MoreTransactions ∷ below) (TheTransactions txns ∷ vs) rest out) → size h ≤ fuel → Split grammar.ReadsTransactions TheTransactions below vs ts out (size h)
+more_transactions fuel reads (stop h) le = record { rest = _; tree = _; reads = reads; has = h; less = up (same _) }
+more_transactions zero reads (go h) le = absurd (none_less le)
+more_transactions (suc fuel) reads (go h) le =
+    let t = split_transaction h in
+    let c = changed t.has in
+    let less = through (before c.less) t.less in
+    wider _ (up less) (more_transactions fuel (grammar.more reads t.reads) c.has (through less (both_less {a = size h} {b = fuel} le)))
 
 -- whole sources
 
@@ -277,7 +301,7 @@ source_way vs out ts h =
     let c = changed t.has in
     let types = more_types (size c.has) (grammar.one t.reads) c.has (same _) in
     let d = changed types.has in
-    let txns = split_transactions grammar.none d.has in
+    let txns = more_transactions (size d.has) grammar.none d.has (same _) in
     source_end types.reads txns.reads txns.has
 
 pub source_leads : (below : List Sym) → Leads (APart WholeSource ∷ below) (type_symbols (Do to_types ∷ Then MoreTypes ∷ Do no_transactions ∷ Then MoreTransactions ∷ Do to_source ∷ below) ∷ [])

@@ -57,13 +57,6 @@ impl Vars {
     {
         self.items.as_slice()
     }
-
-    pub fn into_items(self) -> Vec<Var>
-        ensures { result.items ≡ self }
-    {
-        let Vars { items } = self;
-        items
-    }
 }
 
 /// What a contract says. `Txn` has the source offset of the word `txn`.
@@ -78,7 +71,7 @@ pub enum Prop {
 }
 
 /// A term: the current effect, with its source offset, or a variable.
-#[derive(Clone, Copy, PartialEq, Eq)]
+#[derive(Clone, Copy)]
 pub enum Point {
     CurAt(u32),
     Named(Name),
@@ -116,12 +109,5 @@ impl Points {
         ensures { result.now ≡ self.now }
     {
         self.items.as_slice()
-    }
-
-    pub fn into_items(self) -> Vec<Point>
-        ensures { result.items ≡ self }
-    {
-        let Points { items } = self;
-        items
     }
 }

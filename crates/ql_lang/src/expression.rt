@@ -49,17 +49,10 @@ impl Exprs {
     {
         self.items.as_slice()
     }
-
-    pub fn into_items(self) -> Vec<Expr>
-        ensures { result.items ≡ arguments self }
-    {
-        let Exprs { items } = self;
-        items
-    }
 }
 
 /// The binary operators.
-#[derive(Clone, Copy, PartialEq, Eq)]
+#[derive(Clone, Copy)]
 pub enum BinOp {
     Or,
     And,
@@ -105,12 +98,5 @@ impl TextLit {
         ensures { result.now ≡ self.now }
     {
         self.bytes.as_slice()
-    }
-
-    pub fn into_items(self) -> Vec<u8>
-        ensures { result.items ≡ self }
-    {
-        let TextLit { bytes } = self;
-        bytes
     }
 }

@@ -57,13 +57,6 @@ impl Choices {
     {
         self.items.as_slice()
     }
-
-    pub fn into_items(self) -> Vec<OpChoice>
-        ensures { result.items ≡ self }
-    {
-        let Choices { items } = self;
-        items
-    }
 }
 
 /// What a formula says.
@@ -116,12 +109,5 @@ impl Terms {
         ensures { result.now ≡ self.now }
     {
         self.items.as_slice()
-    }
-
-    pub fn into_items(self) -> Vec<Term>
-        ensures { result.items ≡ self }
-    {
-        let Terms { items } = self;
-        items
     }
 }

@@ -4,7 +4,7 @@ use ql_base::Word;
 use std::marker::Model;
 
 /// A name of the source and the source offset of its first byte.
-#[derive(Clone, Copy, PartialEq, Eq)]
+#[derive(Clone, Copy)]
 pub struct Name {
     pub word: Word,
     pub at: u32,
@@ -42,12 +42,5 @@ impl NameList {
         ensures { result.now ≡ self.now }
     {
         self.items.as_slice()
-    }
-
-    pub fn into_items(self) -> Vec<Name>
-        ensures { result.items ≡ self }
-    {
-        let NameList { items } = self;
-        items
     }
 }

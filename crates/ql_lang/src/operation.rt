@@ -25,7 +25,7 @@ pub enum Kind {
 }
 
 /// A parameter of an operation.
-#[derive(Clone, Copy, PartialEq, Eq)]
+#[derive(Clone, Copy)]
 pub struct Param {
     pub name: Name,
     pub base: Base,
@@ -63,13 +63,6 @@ impl Params {
         ensures { result.now ≡ self.now }
     {
         self.items.as_slice()
-    }
-
-    pub fn into_items(self) -> Vec<Param>
-        ensures { result.items ≡ self }
-    {
-        let Params { items } = self;
-        items
     }
 }
 
@@ -119,13 +112,6 @@ impl Binds {
     {
         self.items.as_slice()
     }
-
-    pub fn into_items(self) -> Vec<Bind>
-        ensures { result.items ≡ self }
-    {
-        let Binds { items } = self;
-        items
-    }
 }
 
 /// A statement: the new value of a state field.
@@ -172,13 +158,6 @@ impl Stmts {
         ensures { result.now ≡ self.now }
     {
         self.items.as_slice()
-    }
-
-    pub fn into_items(self) -> Vec<Stmt>
-        ensures { result.items ≡ self }
-    {
-        let Stmts { items } = self;
-        items
     }
 }
 
@@ -265,12 +244,5 @@ impl OpDecls {
         ensures { result.now ≡ self.now }
     {
         self.items.as_slice()
-    }
-
-    pub fn into_items(self) -> Vec<OpDecl>
-        ensures { result.items ≡ self }
-    {
-        let OpDecls { items } = self;
-        items
     }
 }

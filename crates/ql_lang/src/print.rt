@@ -58,13 +58,11 @@ fn push_vars(out: &mut Vec<u8>, vars: &[Var]) -> Result<(), NoMemory>
     ensures { OnOk result
         (out.new.items ≡ out.old.items ++ listed (codes ", ") (map var_text vars.now)) }
 {
-    let Some((first, others)) = vars.split_first() else {
-        return Ok(());
-    };
-    push_var(out, first)?;
-    for var in others {
-        push_bytes(out, b", ")?;
+    let mut before: &[u8] = b"";
+    for var in vars {
+        push_bytes(out, before)?;
         push_var(out, var)?;
+        before = b", ";
     }
     Ok(())
 }
@@ -92,13 +90,11 @@ pub(crate) fn push_names(out: &mut Vec<u8>, names: &[Name], mark: &[u8]) -> Resu
     ensures { OnOk result
         (out.new.items ≡ out.old.items ++ listed mark.now (map word_of names.now)) }
 {
-    let Some((first, others)) = names.split_first() else {
-        return Ok(());
-    };
-    push_bytes(out, first.word.bytes())?;
-    for name in others {
-        push_bytes(out, mark)?;
+    let mut before: &[u8] = b"";
+    for name in names {
+        push_bytes(out, before)?;
         push_bytes(out, name.word.bytes())?;
+        before = mark;
     }
     Ok(())
 }
@@ -238,13 +234,11 @@ fn push_txn(out: &mut Vec<u8>, first: &[Point], second: &[Point]) -> Result<(), 
 fn push_terms(out: &mut Vec<u8>, terms: &[Point]) -> Result<(), NoMemory>
     ensures { OnOk result (out.new.items ≡ out.old.items ++ terms_text terms.now) }
 {
-    let Some((first, others)) = terms.split_first() else {
-        return Ok(());
-    };
-    push_bytes(out, term_bytes(first))?;
-    for term in others {
-        push_bytes(out, b", ")?;
+    let mut before: &[u8] = b"";
+    for term in terms {
+        push_bytes(out, before)?;
         push_bytes(out, term_bytes(term))?;
+        before = b", ";
     }
     Ok(())
 }

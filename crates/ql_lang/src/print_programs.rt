@@ -175,23 +175,22 @@ fn push_params(out: &mut Vec<u8>, params: &[Param]) -> Result<(), NoMemory>
     ensures { OnOk result
         (out.new.items ≡ out.old.items ++ listed (codes ", ") (map param_text params.now)) }
 {
-    let Some((first, others)) = params.split_first() else {
-        return Ok(());
-    };
-    push_param(out, first)?;
-    for param in others {
-        push_bytes(out, b", ")?;
-        push_param(out, param)?;
+    let mut before: &[u8] = b"";
+    for param in params {
+        push_bytes(out, before)?;
+        push_typed(out, &param.name, param.base)?;
+        before = b", ";
     }
     Ok(())
 }
 
-fn push_param(out: &mut Vec<u8>, param: &Param) -> Result<(), NoMemory>
-    ensures { OnOk result (out.new.items ≡ out.old.items ++ param_text param.now) }
+// A name and the kind of its value.
+fn push_typed(out: &mut Vec<u8>, name: &Name, base: Base) -> Result<(), NoMemory>
+    ensures { OnOk result
+        (out.new.items ≡ out.old.items ++ (name.now.word ++ (codes ": ") ++ base_word base)) }
 {
-    push_bytes(out, param.name.word.bytes())?;
-    push_bytes(out, b": ")?;
-    push_bytes(out, base_word(param.base))
+    push_all(out, &[name.word.bytes(), b": "])?;
+    push_bytes(out, base_word(base))
 }
 
 fn push_effect(out: &mut Vec<u8>, effect: Option<&EmitDecl>) -> Result<(), NoMemory>
@@ -223,13 +222,11 @@ fn push_bindings(out: &mut Vec<u8>, binds: &[Bind]) -> Result<(), NoMemory>
         (out.new.items ≡ out.old.items
         ++ listed (codes ", ") (map binding_text (map binding_of binds.now))) }
 {
-    let Some((first, others)) = binds.split_first() else {
-        return Ok(());
-    };
-    push_binding(out, first)?;
-    for bind in others {
-        push_bytes(out, b", ")?;
+    let mut before: &[u8] = b"";
+    for bind in binds {
+        push_bytes(out, before)?;
         push_binding(out, bind)?;
+        before = b", ";
     }
     Ok(())
 }
@@ -237,9 +234,7 @@ fn push_bindings(out: &mut Vec<u8>, binds: &[Bind]) -> Result<(), NoMemory>
 fn push_binding(out: &mut Vec<u8>, bind: &Bind) -> Result<(), NoMemory>
     ensures { OnOk result (out.new.items ≡ out.old.items ++ binding_text (binding_of bind.now)) }
 {
-    push_bytes(out, bind.name.word.bytes())?;
-    push_bytes(out, b": ")?;
-    push_bytes(out, base_word(bind.base))?;
+    push_typed(out, &bind.name, bind.base)?;
     push_bytes(out, b" = ")?;
     push_expression(out, &bind.value)
 }

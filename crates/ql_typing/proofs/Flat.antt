@@ -1,6 +1,8 @@
 -- Items of lists one after another, by their places.
-use Rattle.std.proofs.Common.{◌≡◌, ◌<◌, ◌≤◌, ◌+◌, ◌-◌, ℕ, zero, suc, List, [], ◌∷◌, ◌++◌, Some, None, length, drop, get_or, is_some, true, refl, sym, ap, ◌∙◌, arith, replicate, add-one}
+use Rattle.std.proofs.Common.{◌≡◌, ◌<◌, ◌≤◌, ◌+◌, ◌-◌, ℕ, zero, suc, List, [], ◌∷◌, ◌++◌, Option, Some, None, length, drop, get_or, is_some, true, refl, sym, ap, ◌∙◌, arith, replicate, add-one}
+use Rattle.std.specs.Borrow.{Bor}
 use Rattle.std.specs.List.{slice_get}
+use Rattle.std.specs.Option.{option_copied}
 use Rattle.std.proofs.lemmas.List.{length-append}
 use Rattle.std.proofs.lemmas.Option.{slice_get_read}
 use Rattle.ql_typing.proofs.Each.{next_item, no_item}
@@ -63,6 +65,11 @@ pub is_there : {A : Type 0} (xs : List A) (k : ℕ) → k < length xs → is_som
 is_there [] k below = absurd (omega (arith, below))
 is_there (x ∷ xs) zero below = refl
 is_there (x ∷ xs) (suc k) below = is_there xs k (omega (arith, below))
+
+-- what is behind a reference is there where the reference is
+pub copied_there : {A : Type 0} (r : Option (Bor A)) → is_some (option_copied r) ≡ true → is_some r ≡ true
+copied_there None there = there
+copied_there (Some x) there = refl
 
 -- from a place in a list of types on: the operation is found in the type there, or looked for after it
 module _ (types : List TypeDecl) (i : ℕ) (t : TypeDecl) (ops : List OpDecl) (left number : ℕ) (below : i < length types) (is : t ≡ get_or types i t) (ops_are : ops ≡ t.ops) where

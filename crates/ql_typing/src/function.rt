@@ -4,7 +4,7 @@ ghost use Rattle.ql_typing.specs.Functions.{arity_of, function_named, of_base, s
 use ql_lang::{Base, Kind};
 
 /// The functions of the language.
-#[derive(Clone, Copy, PartialEq, Eq)]
+#[derive(Clone, Copy)]
 pub enum Function {
     Has,
     Size,
@@ -18,7 +18,7 @@ pub enum Function {
 }
 
 /// The kinds that a function expects after its first argument, and the kind of its result.
-#[derive(Clone, Copy, PartialEq, Eq)]
+#[derive(Clone, Copy)]
 pub struct Signature {
     pub second: Option<Kind>,
     pub third: Option<Kind>,

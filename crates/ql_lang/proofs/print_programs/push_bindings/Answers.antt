@@ -1,12 +1,18 @@
-use Rattle.std.proofs.Common.{codes}
+use Rattle.std.proofs.Common.{◌++◌, ap, codes, map}
+use Rattle.std.proofs.lemmas.List.{drop_all}
 use Rattle.ql_lang.specs.Programs.{binding_of}
 use Rattle.ql_lang.specs.ProgramSpelling.{binding_text}
-use Rattle.ql_lang.proofs.Appending.{none_marked, one_marked}
+use Rattle.ql_lang.proofs.Appending.{from_start, none_listed, one_listed, taken}
 use Rattle.ql_lang.proofs.print_programs.push_bindings.Goals as goal
+
+pub loop-bind-init : goal.loop-bind-init
+loop-bind-init c = ap (λ t. c.args.out.now.items ++ t) (from_start (codes ", ") (map binding_text (map binding_of c.args.binds.now)))
 
 pub loop-bind-preserved : goal.loop-bind-preserved
 loop-bind-preserved c =
-    one_marked (codes ", ") binding_text binding_of _ c.loop-bind.bind-index c.bind-item.result c.loop-bind.out.items c.push_bytes.new.out.items c.push_binding-in-loop-bind.new.out.items _ c.loop-bind-test.true c.bind-item.is c.loop-bind.invariant c.in_ok-push_bytes.ensures.ok c.in_ok-push_binding-2.ensures
+    one_listed c.loop-bind.before.now (codes ", ") _ _ _ c.loop-bind.out.items _ _ _
+    (ap (λ xs. map binding_text (map binding_of xs)) (taken c.args.binds.now c.loop-bind.bind-index c.bind-item.result c.loop-bind-test.true c.bind-item.is))
+    c.loop-bind.invariant c.in_ok-push_bytes.ensures.ok c.in_ok-push_binding.ensures
 
 pub returns : goal.returns
-returns c = none_marked (codes ", ") binding_text binding_of _ c.loop-bind.bind-index c.loop-bind.out.items _ c.loop-bind-test.false c.loop-bind.invariant
+returns c = none_listed c.loop-bind.before.now (codes ", ") _ c.loop-bind.out.items _ (ap (λ xs. map binding_text (map binding_of xs)) (drop_all c.loop-bind.bind-index c.args.binds.now c.loop-bind-test.false)) c.loop-bind.invariant

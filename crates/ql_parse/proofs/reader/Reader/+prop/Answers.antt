@@ -1,4 +1,4 @@
-use Rattle.std.proofs.Common.{sym, ◌∙◌, refl, ◌∷◌}
+use Rattle.std.proofs.Common.{sym, ◌∙◌, refl, ◌∷◌, arith}
 use Rattle.std.proofs.lemmas.Result.{err_from_is_err_and}
 use Rattle.ql_grammar.specs.ContractGrammar.{Either, Whole}
 use Rattle.ql_grammar.specs.Table.{Then, PropAt, MoreImplied}
@@ -41,6 +41,12 @@ joined_props-more-init t c = record {
   shorter = c.in_ok-left.ensures.shorter;
 }
 
+pub joined_props-more-preserved : goal.joined_props-more-preserved
+joined_props-more-preserved t c = record {
+  so_far = λ below vs. c.more.invariant.so_far below vs ∙ c.in_ok-left-2.ensures.turned _ _;
+  shorter = omega (arith, c.more.invariant.shorter, c.in_ok-left-2.ensures.shorter);
+}
+
 pub joined_props-returns-clause-gave : goal.joined_props-returns-clause-gave
 joined_props-returns-clause-gave t c = λ below vs. c.more.invariant.so_far below vs ∙ props_past c.more.self c.args.junction _ c.prop_mark-mark.ensures below _ (sym c.sees.ensures ∙ c.more-test.false)
 
@@ -56,6 +62,11 @@ more_props-returns-in_err-left-2-clause-refused t c =
 
 pub more_props-returns-clause-turned : goal.more_props-returns-clause-turned
 more_props-returns-clause-turned t c = λ below vs. rw (c.of_props.ensures, c.in_ok-left-3.ensures.left, c.in_ok-left-3.ensures.right, c.in_ok-left-2.ensures.parts.0, c.in_ok-left.ensures.took.0) (props_on c.args.self.now c.args.junction _ c.prop_mark.ensures below _ c.requires ∙ c.in_ok-left.ensures.took.1 _ _ ∙ (rw c.in_ok-left-2.ensures.parts.1 at c.prop_operand.ensures.gave) _ _ ∙ read-do _ _ _ _)
+
+pub more_props-returns-clause-shorter : goal.more_props-returns-clause-shorter
+more_props-returns-clause-shorter t c =
+    let behind = rw c.in_ok-left-2.ensures.parts.1 at c.prop_operand.ensures.shorter in
+    omega (arith, c.in_ok-left.ensures.shorter, behind)
 
 pub prop-returns-in_err-left-clause-refused : goal.prop-returns-in_err-left-clause-refused
 prop-returns-in_err-left-clause-refused t c =
@@ -74,6 +85,11 @@ prop-returns-in_err-left-3-clause-refused t c =
 
 pub prop-returns-clause-gave : goal.prop-returns-clause-gave
 prop-returns-clause-gave t c = λ below vs. rw (c.in_ok-left-4.ensures.left, c.in_ok-left-4.ensures.right, c.in_ok-left-3.ensures.parts.0, c.in_ok-left-2.ensures.took.0) (read-as c.args.self.now (PropAt Whole) (PropAt Either) below (Then MoreImplied ∷ below) vs refl ∙ c.in_ok-left.ensures.gave _ _ ∙ then-on c.joined_props.new.self MoreImplied below _ (sym c.sees.ensures ∙ c.if-not-sees.false) ∙ c.in_ok-left-2.ensures.took.1 _ _ ∙ (rw c.in_ok-left-3.ensures.parts.1 at c.prop.ensures.gave) _ _ ∙ read-do _ _ _ _)
+
+pub prop-returns-clause-shorter : goal.prop-returns-clause-shorter
+prop-returns-clause-shorter t c =
+    let behind = rw c.in_ok-left-3.ensures.parts.1 at c.prop.ensures.shorter in
+    omega (arith, c.in_ok-left.ensures.shorter, c.in_ok-left-2.ensures.shorter, behind)
 
 pub prop-returns-then-not-sees-clause-gave : goal.prop-returns-then-not-sees-clause-gave
 prop-returns-then-not-sees-clause-gave t c = λ below vs. read-as c.args.self.now (PropAt Whole) (PropAt Either) below (Then MoreImplied ∷ below) vs refl ∙ c.in_ok-left.ensures.gave _ _ ∙ then-past c.joined_props.new.self MoreImplied below _ (sym c.sees.ensures ∙ c.if-not-sees.true)

@@ -1,4 +1,4 @@
-use Rattle.std.proofs.Common.{sym, ◌∙◌}
+use Rattle.std.proofs.Common.{sym, ◌∙◌, arith}
 use Rattle.std.proofs.lemmas.Result.{err_from_is_err_and}
 use Rattle.ql_grammar.specs.ContractGrammar.{Single}
 use Rattle.ql_grammar.specs.Table.{RelationAt}
@@ -43,6 +43,12 @@ joined_relations-more-init t c = record {
   shorter = c.in_ok-left.ensures.shorter;
 }
 
+pub joined_relations-more-preserved : goal.joined_relations-more-preserved
+joined_relations-more-preserved t c = record {
+  so_far = λ below vs. c.more.invariant.so_far below vs ∙ c.in_ok-left-2.ensures.turned _ _;
+  shorter = omega (arith, c.more.invariant.shorter, c.in_ok-left-2.ensures.shorter);
+}
+
 pub joined_relations-returns-clause-gave : goal.joined_relations-returns-clause-gave
 joined_relations-returns-clause-gave t c = λ below vs. c.more.invariant.so_far below vs ∙ relations_past c.more.self c.args.junction _ c.relation_mark-mark.ensures below _ (sym c.sees.ensures ∙ c.more-test.false)
 
@@ -58,6 +64,11 @@ more_relations-returns-in_err-left-2-clause-refused t c =
 
 pub more_relations-returns-clause-turned : goal.more_relations-returns-clause-turned
 more_relations-returns-clause-turned t c = λ below vs. rw (c.of_relations.ensures, c.in_ok-left-3.ensures.left, c.in_ok-left-3.ensures.right, c.in_ok-left-2.ensures.parts.0, c.in_ok-left.ensures.took.0) (relations_on c.args.self.now c.args.junction _ c.relation_mark.ensures below _ c.requires ∙ c.in_ok-left.ensures.took.1 _ _ ∙ (rw c.in_ok-left-2.ensures.parts.1 at c.relation_operand.ensures.gave) _ _ ∙ read-do _ _ _ _)
+
+pub more_relations-returns-clause-shorter : goal.more_relations-returns-clause-shorter
+more_relations-returns-clause-shorter t c =
+    let behind = rw c.in_ok-left-2.ensures.parts.1 at c.relation_operand.ensures.shorter in
+    omega (arith, c.in_ok-left.ensures.shorter, behind)
 
 pub relation_operand-returns-in-And-clause-gave : goal.relation_operand-returns-in-And-clause-gave
 relation_operand-returns-in-And-clause-gave t c = rw c.in-And.is (if_ok c.single.result c.single.ensures.gave (λ x gave below vs. read-part c.args.self.now (RelationAt Single) below vs ∙ gave below vs))
