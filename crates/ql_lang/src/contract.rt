@@ -57,6 +57,13 @@ impl Vars {
     {
         self.items.as_slice()
     }
+
+    pub fn into_items(self) -> Vec<Var>
+        ensures { result.items ≡ self }
+    {
+        let Vars { items } = self;
+        items
+    }
 }
 
 /// What a contract says. `Txn` has the source offset of the word `txn`.
@@ -109,5 +116,12 @@ impl Points {
         ensures { result.now ≡ self.now }
     {
         self.items.as_slice()
+    }
+
+    pub fn into_items(self) -> Vec<Point>
+        ensures { result.items ≡ self }
+    {
+        let Points { items } = self;
+        items
     }
 }

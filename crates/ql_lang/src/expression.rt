@@ -49,6 +49,13 @@ impl Exprs {
     {
         self.items.as_slice()
     }
+
+    pub fn into_items(self) -> Vec<Expr>
+        ensures { result.items ≡ arguments self }
+    {
+        let Exprs { items } = self;
+        items
+    }
 }
 
 /// The binary operators.
@@ -98,5 +105,12 @@ impl TextLit {
         ensures { result.now ≡ self.now }
     {
         self.bytes.as_slice()
+    }
+
+    pub fn into_items(self) -> Vec<u8>
+        ensures { result.items ≡ self }
+    {
+        let TextLit { bytes } = self;
+        bytes
     }
 }

@@ -57,6 +57,13 @@ impl Choices {
     {
         self.items.as_slice()
     }
+
+    pub fn into_items(self) -> Vec<OpChoice>
+        ensures { result.items ≡ self }
+    {
+        let Choices { items } = self;
+        items
+    }
 }
 
 /// What a formula says.
@@ -109,5 +116,12 @@ impl Terms {
         ensures { result.now ≡ self.now }
     {
         self.items.as_slice()
+    }
+
+    pub fn into_items(self) -> Vec<Term>
+        ensures { result.items ≡ self }
+    {
+        let Terms { items } = self;
+        items
     }
 }

@@ -43,4 +43,11 @@ impl NameList {
     {
         self.items.as_slice()
     }
+
+    pub fn into_items(self) -> Vec<Name>
+        ensures { result.items ≡ self }
+    {
+        let NameList { items } = self;
+        items
+    }
 }

@@ -64,6 +64,13 @@ impl Params {
     {
         self.items.as_slice()
     }
+
+    pub fn into_items(self) -> Vec<Param>
+        ensures { result.items ≡ self }
+    {
+        let Params { items } = self;
+        items
+    }
 }
 
 /// A value that an operation emits, under a name.
@@ -112,6 +119,13 @@ impl Binds {
     {
         self.items.as_slice()
     }
+
+    pub fn into_items(self) -> Vec<Bind>
+        ensures { result.items ≡ self }
+    {
+        let Binds { items } = self;
+        items
+    }
 }
 
 /// A statement: the new value of a state field.
@@ -158,6 +172,13 @@ impl Stmts {
         ensures { result.now ≡ self.now }
     {
         self.items.as_slice()
+    }
+
+    pub fn into_items(self) -> Vec<Stmt>
+        ensures { result.items ≡ self }
+    {
+        let Stmts { items } = self;
+        items
     }
 }
 
@@ -244,5 +265,12 @@ impl OpDecls {
         ensures { result.now ≡ self.now }
     {
         self.items.as_slice()
+    }
+
+    pub fn into_items(self) -> Vec<OpDecl>
+        ensures { result.items ≡ self }
+    {
+        let OpDecls { items } = self;
+        items
     }
 }

@@ -76,6 +76,13 @@ impl Fields {
     {
         self.items.as_slice()
     }
+
+    pub fn into_items(self) -> Vec<Field>
+        ensures { result.items ≡ self }
+    {
+        let Fields { items } = self;
+        items
+    }
 }
 
 /// A replicated type, and the source offset of the word `type`.
@@ -138,6 +145,13 @@ impl TypeDecls {
     {
         self.items.as_slice()
     }
+
+    pub fn into_items(self) -> Vec<TypeDecl>
+        ensures { result.items ≡ self }
+    {
+        let TypeDecls { items } = self;
+        items
+    }
 }
 
 /// A transaction, the operations that it uses, and the source offset of the word `transaction`.
@@ -198,6 +212,13 @@ impl TxnDecls {
         ensures { result.now ≡ self.now }
     {
         self.items.as_slice()
+    }
+
+    pub fn into_items(self) -> Vec<TxnDecl>
+        ensures { result.items ≡ self }
+    {
+        let TxnDecls { items } = self;
+        items
     }
 }
 
