@@ -49,3 +49,15 @@ loop-preserved c = rw c.in_ok-push.ensures.items (record {
 
 pub returns : goal.returns
 returns c = (c.loop.invariant.within, set_full c.args.bytes.now c.args.first c.loop.at c.args.room c.loop.counter c.loop.elements.items (omega arith) c.loop.invariant.same)
+
+pub scalar-requires : goal.scalar-requires
+scalar-requires c = c.loop.invariant.within
+
+pub is_at-requires : goal.is_at-requires
+is_at-requires c = c.in_ok-element.ensures.0
+
+pub is_at-requires-in-loop : goal.is_at-requires-in-loop
+is_at-requires-in-loop c = c.in_ok-element.ensures.0
+
+pub spaces_end-at-requires : goal.spaces_end-at-requires
+spaces_end-at-requires c = within c.args.bytes.now c.in_ok-element.behind 44 (sym c.is_at-in-loop.ensures ∙ c.if-not-is_at.false)
