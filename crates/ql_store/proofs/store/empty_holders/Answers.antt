@@ -13,9 +13,9 @@ loop-r-preserved g c =
     let next : suc c.loop-r._r ≡ c.loop-r._r + 1 = omega arith in
     rw c.in_ok-push.ensures.items (
       map_push g.H.Holder.received items c.empty.result
-      ∙ ap (λ (ids : List ℕ). map g.H.Holder.received items ++ ids ∷ []) c.empty.ensures.nothing
-      ∙ ap (λ (lists : List (List ℕ)). lists ++ [] ∷ []) c.loop-r.invariant.0
-      ∙ one_more {A = List ℕ} [] c.loop-r._r ∙ ap (λ (n : ℕ). replicate n []) next,
+          ∙ ap (λ (ids : List ℕ). map g.H.Holder.received items ++ ids ∷ []) c.empty.ensures.nothing
+          ∙ ap (λ (lists : List (List ℕ)). lists ++ [] ∷ []) c.loop-r.invariant.0
+          ∙ one_more {A = List ℕ} [] c.loop-r._r ∙ ap (λ (n : ℕ). replicate n []) next,
       λ x. All-push (λ h. g.H.Holder.fits h x) items c.empty.result (c.loop-r.invariant.1 x) (c.empty.ensures.fits x),
     )
 
