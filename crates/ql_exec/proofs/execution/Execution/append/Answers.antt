@@ -1,4 +1,4 @@
-use Rattle.std.proofs.Common.{◌≡◌, ◌++◌, ◌∷◌, [], ℕ, suc, length-append, ◌+◌, ◌<◌, ◌^◌, length, ap, subst, arith, ◌∙◌}
+use Rattle.std.proofs.Common.{◌≡◌, ◌++◌, ◌∷◌, [], ℕ, suc, length-append, ◌+◌, ◌<◌, ◌^◌, length, ap, arith, ◌∙◌}
 use Rattle.ql_exec.specs.Execution.{IsExecution}
 use Rattle.ql_exec.specs.Latest.{latest_of, with_latest, IsLastOf}
 use Rattle.ql_exec.proofs.LatestLaws.{FindsLast-push, KnowsRuns-push}
