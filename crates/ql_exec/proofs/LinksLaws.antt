@@ -1,10 +1,11 @@
 -- The table of the effect before each one in its session goes on with the execution.
-use Rattle.std.proofs.Common.{◌≡◌, ℕ, zero, suc, ◌≤◌, true, get_or, take, List, [], ◌∷◌, ◌++◌, length, Some, None, ap, sym, ◌∙◌, inl, inr, arith, length-append}
+use Rattle.std.proofs.Common.{◌≡◌, ℕ, zero, suc, ◌≤◌, true, get_or, take, List, [], ◌∷◌, ◌++◌, length, Some, None, refl, ap, sym, ◌∙◌, inl, inr, arith, length-append}
 use Rattle.std.proofs.lemmas.Option.{same_Some, slice_get-get_or}
 use Rattle.std.proofs.lemmas.Bool.{cases_lt}
 use Rattle.std.proofs.lemmas.List.{get_or-take, get_or_append_left, length-take-le}
 use Rattle.std.proofs.Math.Seq.{get_or-append_seam}
 use Rattle.ql_exec.specs.declared.effect.Effect.{Effect}
+use Rattle.ql_base.specs.declared.ids.SessId.{SessId}
 use Rattle.ql_exec.specs.Effects.{effect_at, of_session, last}
 use Rattle.ql_exec.specs.Latest.{IsLastOf}
 use Rattle.ql_exec.specs.Links.{IsLink, HasLinks}
@@ -38,15 +39,34 @@ link-front x more e before within link = (
 
 -- ---- of the last effect
 
+not_there : (x : List Effect) (k : ℕ) → suc k ≤ length x → effect_at x (suc k) ≡ None → ⊥
+not_there [] k within is = omega (arith, within)
+not_there (e ∷ x) k within is = let here : Some (get_or (e ∷ x) k e) ≡ None = sym (slice_get-get_or (e ∷ x) k e (omega (arith, within))) ∙ is in cc
+
+-- a session has one last effect
+pub only_last : (x : List Effect) (s : SessId) (a b : ℕ) → IsLastOf x s a → IsLastOf x s b → a ≡ b
+only_last x s a b first second = one (last_is x s)
+  where
+    none_at : (id : ℕ) → IsLastOf x s id → last (of_session x s) ≡ None → id ≡ 0
+    none_at zero known none = refl
+    none_at (suc k) known none = absurd (not_there x k known.0 (known.1 ∙ none))
+
+    one : LastIs x s → a ≡ b
+    one (nothing none absent) = none_at a first none ∙ sym (none_at b second none)
+    one (effect id f is at own highest) =
+        let low = first.2 b f (second.1 ∙ is) own in
+        let high = second.2 a f (first.1 ∙ is) own in
+        omega (arith, low, high)
+
 link-new : (x : List Effect) (e : Effect) (before : ℕ) → IsLastOf x e.session before → IsLink (x ++ e ∷ []) (suc (length x)) before
 link-new x e before known = (there (last_is x e.session), high)
   where
     there : LastIs x e.session → 1 ≤ before → so (x ++ e ∷ []) before (suc (length x)) ≡ true
-    there (nothing none absent) some = absurd (never before some known.0 (known.1 ∙ none))
+    there (nothing none absent) some = absurd (nowhere before some known.0 (known.1 ∙ none))
       where
-        never : (id : ℕ) → 1 ≤ id → id ≤ length x → effect_at x id ≡ None → ⊥
-        never zero first within is = omega (arith, first)
-        never (suc k) first within is = let here : Some (get_or x k e) ≡ None = sym (slice_get-get_or x k e (omega (arith, within))) ∙ is in cc
+        nowhere : (id : ℕ) → 1 ≤ id → id ≤ length x → effect_at x id ≡ None → ⊥
+        nowhere zero first within is = omega (arith, first)
+        nowhere (suc k) first within is = not_there x k within is
     there (effect id f is at own highest) some =
         let low = known.0 in
         so_from (x ++ e ∷ []) before (suc (length x)) f e (effect_at-append x (e ∷ []) before low ∙ known.1 ∙ is) (effect_at-last x e) own (omega (arith, low))

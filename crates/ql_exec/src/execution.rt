@@ -1,10 +1,10 @@
-ghost use Rattle.std.specs.Prelude.{◌≡◌, ◌+◌, ◌-◌, ◌^◌, ◌<◌, ◌≤◌, ◌++◌, ◌∷◌, ◌↔◌, [], List, true, length, take, Some, None, ◌==◌, IfOk, OnOk, OnErr};
+ghost use Rattle.std.specs.Prelude.{◌≡◌, ◌+◌, ◌-◌, ◌^◌, ◌<◌, ◌≤◌, ◌++◌, ◌∷◌, ◌↔◌, [], List, true, length, take, Some, None, ◌==◌, IfOk, MatchResult, OnOk, OnErr};
 ghost use Rattle.std.specs.Option.{option_copied};
 ghost use Rattle.ql_base.specs.IdLists.{IsAscending};
 ghost use Rattle.ql_exec.specs.declared.effect.Effect.{Effect};
 ghost use Rattle.ql_exec.specs.Effects.{effect_at, of_session, last};
-ghost use Rattle.ql_exec.specs.Execution.{IsExecution, fault_of, effect_of, next_id, IsPushAnswer, IsMade, with_stamp};
-ghost use Rattle.ql_exec.specs.Latest.{FindsLast, KnowsRuns, has_entry, latest_of, KnowsRunOf};
+ghost use Rattle.ql_exec.specs.Execution.{IsExecution, fault_of, effect_of, next_id, IsPushAnswer, IsMade, stamp_of, with_stamp};
+ghost use Rattle.ql_exec.specs.Latest.{FindsLast, IsLastOf, KnowsRuns, has_entry, latest_of, KnowsRunOf};
 ghost use Rattle.ql_exec.specs.Links.{HasLinks};
 
 use crate::copying::copy_effect;
@@ -15,6 +15,13 @@ use crate::latest::Latest;
 use ql_base::{EffId, IdSet, NoMemory, SessId};
 use std::alloc::Global;
 use std::marker::Model;
+
+// What an effect gets from those before it: its stamp, and the last one of its session, 0 if there is none.
+#[derive(Clone, Copy)]
+struct Place {
+    stamp: u32,
+    before: u32,
+}
 
 /// An execution, seen as the list of its effects. They are numbered from 1.
 pub struct Execution {
@@ -131,26 +138,57 @@ impl Execution {
         ensures lawful { (fault_of self.old draft ≡ None)
             ↔ IsExecution (self.old ++ effect_of self.old draft ∷ []) }
     {
-        let id = EffId(self.effects.len() as u32 + 1);
+        let place = match self.place(&draft) {
+            Ok(place) => place,
+            Err(fault) => return Err(fault),
+        };
+        self.append(stamped(draft, place.stamp), place.before)?;
+        Ok(EffId(self.len()))
+    }
+
+    // Where a draft comes as the next effect, or the first of its faults.
+    fn place(&self, draft: &Draft) -> Result<Place, ExecFault>
+        requires { length self.now + 1 < 2 ^ 32 }
+        ensures placed { MatchResult result
+            (λ place. (fault_of self.now draft.now ≡ None)
+            × (place.stamp ≡ stamp_of self.now draft.now.session draft.now.seen)
+            × IsLastOf self.now draft.now.session place.before)
+            (λ fault. fault_of self.now draft.now ≡ Some fault) }
+        ensures execution { IsExecution self.now }
+        ensures ascending { IsAscending draft.now.seen }
+    {
         let before = self.latest.of(draft.session);
         let last = effect(&self.effects, before);
-        if let Some(fault) = fault_in(&self.effects, last, &self.runs, &draft, id) {
+        let id = EffId(self.effects.len() as u32 + 1);
+        if let Some(fault) = fault_in(&self.effects, last, &self.runs, draft, id) {
             return Err(fault);
         }
         let stamp = stamp_after(&self.effects, last, draft.session, draft.seen.items());
-        let session = draft.session;
+        Ok(Place { stamp, before })
+    }
+
+    // Appends an effect, given the last one before it in its session.
+    fn append(&mut self, effect: Effect, before: u32) -> Result<(), NoMemory>
+        requires room { length self.old + 1 < 2 ^ 32 }
+        requires execution { IsExecution (self.old ++ effect ∷ []) }
+        requires last { IsLastOf self.old effect.session before }
+        ensures pushed { OnOk result (self.new ≡ self.old ++ effect ∷ []) }
+        ensures err { OnErr result (self.new ≡ self.old) }
+    {
+        let id = self.effects.len() as u32 + 1;
+        let session = effect.session;
         make_room(
             &mut self.latest,
             &mut self.runs,
             session,
             before,
-            draft.member,
+            effect.member,
         )?;
         self.links.reserve(1)?;
-        self.effects.push(stamped(draft, stamp))?;
+        self.effects.push(effect)?;
         self.links.push_reserved(before);
-        self.latest.put(session, id.0);
-        Ok(id)
+        self.latest.put(session, id);
+        Ok(())
     }
 
     /// Removes the last effect.

@@ -1,4 +1,5 @@
-ghost use Rattle.std.specs.Prelude.{◌≡◌, ◌≢◌, ◌≤◌, ◌<◌, ◌+◌, ◌^◌, ℕ, List, Some, None, true, false, length, IfOk, OnErr};
+ghost use Rattle.std.specs.Prelude.{◌≡◌, ◌≢◌, ◌≤◌, ◌<◌, ◌+◌, ◌^◌, ℕ, List, Some, None, true, false, [], All, length, map, replicate, IfOk, OnErr};
+ghost use Rattle.ql_exec.specs.declared.effect.Effect.{Effect};
 ghost use Rattle.ql_exec.specs.Effects.{effect_at};
 ghost use Rattle.ql_exec.specs.Execution.{IsOn};
 ghost use Rattle.ql_exec.specs.Folding.{seen_in_order};
@@ -86,6 +87,20 @@ impl<H: Holder> Model for Store<H> {
         × All (λ h. H.fits h s.execution) s.holders.items };
 }
 
+// Holders of this many replicas, which have received nothing.
+fn empty_holders<H: Holder>(alloc: Global, replicas: u32) -> Result<Vec<H>, NoMemory>
+    ensures received { IfOk result
+        (λ holders. map H.received holders.items ≡ replicate replicas []) }
+    ensures fit { IfOk result
+        (λ holders. (x : List Effect) → All (λ h. H.fits h x) holders.items) }
+{
+    let mut holders = Vec::with_capacity(alloc, replicas as usize)?;
+    for _r in 0..replicas {
+        holders.push(H::empty(alloc))?;
+    }
+    Ok(holders)
+}
+
 impl<H: Holder> Store<H> {
     /// A store with this many replicas, in its initial state.
     pub fn new(alloc: Global, replicas: u32, levels: Levels) -> Result<Store<H>, NoMemory>
@@ -93,10 +108,7 @@ impl<H: Holder> Store<H> {
         ensures { IfOk result
             (λ store. store ≡ record { levels = levels; machine = empty replicas }) }
     {
-        let mut holders = Vec::with_capacity(alloc, replicas as usize)?;
-        for _r in 0..replicas {
-            holders.push(H::empty(alloc))?;
-        }
+        let holders = empty_holders(alloc, replicas)?;
         Ok(Store {
             alloc,
             levels,

@@ -1,7 +1,7 @@
 use Rattle.std.proofs.Common.{◌≡◌, ◌<◌, ◌+◌, ℕ, List, [], ◌∷◌, ◌++◌, Option, length, get_or, map, take, ap, sym, ◌∙◌}
 use Rattle.std.specs.List.{cons_option, filter_map}
 use Rattle.std.specs.Option.{option_copied}
-use Rattle.std.proofs.lemmas.List.{append-nil, map_push, take_more}
+use Rattle.std.proofs.lemmas.List.{append-nil, map_push, take_all, take_more}
 use Rattle.std.proofs.lemmas.List.Elements.{filter_map-append}
 use Rattle.ql_exec.specs.declared.effect.Effect.{Effect}
 use Rattle.ql_eval.specs.Folds.{emitting_at}
@@ -23,3 +23,6 @@ loop-id-preserved c =
           ∙ ap (λ es. es ++ w.in-Some.effect.now ∷ []) c.loop-id.invariant ∙ sym (rw w.in-Some.is at next)
       | in_default w ↦ ap (λ v. map (λ e. e.now) v.items) w.found-is ∙ c.loop-id.invariant ∙ sym (append-nil _) ∙ sym (rw w.in_default.is at next)
     ]
+
+pub returns : goal.returns
+returns c = c.loop-id.invariant ∙ ap (filter_map (emitting_at c.args.effects.now)) (take_all c.loop-id.id-index c.args.ids.now c.loop-id-test.false)

@@ -1,9 +1,11 @@
 use Rattle.std.proofs.Common.{◌≡◌, ℕ, nat_le, false, None, arith, ap, sym, ◌∙◌}
 use Rattle.std.specs.Prelude.{◌||◌}
 use Rattle.std.proofs.lemmas.Bool.Decides.{nat_tests}
+use Rattle.ql_base.specs.declared.ids.ReplicaId.{ReplicaId}
+use Rattle.ql_machine.specs.declared.event.Event.TheVariants as event
 use Rattle.ql_lang.specs.declared.program.Program.{Program}
 use Rattle.ql_schedule.specs.declared.event_line.EventLine.{EventLine}
-use Rattle.ql_schedule.specs.declared.event_line.EventLine.TheVariants.{Resend}
+use Rattle.ql_schedule.specs.declared.event_line.EventLine.TheVariants.{Deliver, Repeat, Lose, Resend, Join}
 use Rattle.ql_schedule.specs.declared.schedule.Schedule.{Schedule}
 use Rattle.ql_schedule.specs.Judging.{event_faults, is_caller_out, is_number_out, is_out}
 use Rattle.ql_schedule.specs.Makings.{event_of}
@@ -39,3 +41,38 @@ returns-in-Commit c = c.commit.ensures ∙ sym (ap (event_of c.args.t.now.progra
 
 pub returns-in-Resend : goal.returns-in-Resend
 returns-in-Resend c = c.resend.ensures ∙ sym (ap (event_of c.args.t.now.program c.args.so_far.now) c.in-Resend.is)
+
+pub overflow_cast-result : goal.overflow_cast-result
+overflow_cast-result c =
+    let h = in_range c.args.t.now.program c.args.so_far.now c.args.replicas c.args.line (Deliver c.in-Deliver.n) c.in-Deliver.is c.requires.lawful in
+    grind (arith, nat_tests, h)
+
+pub overflow_cast-result-in-Repeat : goal.overflow_cast-result-in-Repeat
+overflow_cast-result-in-Repeat c =
+    let h = in_range c.args.t.now.program c.args.so_far.now c.args.replicas c.args.line (Repeat c.in-Repeat.n) c.in-Repeat.is c.requires.lawful in
+    grind (arith, nat_tests, h)
+
+pub overflow_cast-result-in-Lose : goal.overflow_cast-result-in-Lose
+overflow_cast-result-in-Lose c =
+    let h = in_range c.args.t.now.program c.args.so_far.now c.args.replicas c.args.line (Lose c.in-Lose.n) c.in-Lose.is c.requires.lawful in
+    grind (arith, nat_tests, h)
+
+pub replica-requires : goal.replica-requires
+replica-requires c =
+    let h = in_range c.args.t.now.program c.args.so_far.now c.args.replicas c.args.line (Join c.in-Join.near c.in-Join.copy) c.in-Join.is c.requires.lawful in
+    grind (arith, nat_tests, h)
+
+pub returns-in-Deliver : goal.returns-in-Deliver
+returns-in-Deliver c = sym (ap (event_of c.args.t.now.program c.args.so_far.now) c.in-Deliver.is)
+
+pub returns-in-Repeat : goal.returns-in-Repeat
+returns-in-Repeat c = sym (ap (event_of c.args.t.now.program c.args.so_far.now) c.in-Repeat.is)
+
+pub returns-in-Lose : goal.returns-in-Lose
+returns-in-Lose c = sym (ap (event_of c.args.t.now.program c.args.so_far.now) c.in-Lose.is)
+
+pub returns-in-Heal : goal.returns-in-Heal
+returns-in-Heal c = sym (ap (event_of c.args.t.now.program c.args.so_far.now) c.in-Heal.is)
+
+pub returns : goal.returns
+returns c = ap (λ (near : ReplicaId). event.Join near c.in-Join.copy) c.replica.ensures ∙ sym (ap (event_of c.args.t.now.program c.args.so_far.now) c.in-Join.is)

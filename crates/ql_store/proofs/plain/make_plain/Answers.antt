@@ -25,3 +25,18 @@ pub returns-in-Err-clause-noted : goal.returns-in-Err-clause-noted
 returns-in-Err-clause-noted g c =
     noted-pop c.args.x.now c.push_noted.new.x c.pop.new.self (effect_of c.args.x.now c.args.draft) c.push_noted.new.sessions c.undo.new.self
     c.in_ok-id.ensures.made c.in_ok-id.ensures.noted c.pop.ensures c.undo.ensures
+
+pub push_noted-requires-clause-room : goal.push_noted-requires-clause-room
+push_noted-requires-clause-room g c = c.requires.room
+
+pub push_noted-requires-clause-lawful : goal.push_noted-requires-clause-lawful
+push_noted-requires-clause-lawful g c = c.requires.lawful
+
+pub push_noted-requires-clause-noted : goal.push_noted-requires-clause-noted
+push_noted-requires-clause-noted g c = c.requires.noted
+
+pub spread_one-requires-clause-replica : goal.spread_one-requires-clause-replica
+spread_one-requires-clause-replica g c = c.requires.replica
+
+pub spread_one-requires-clause-room : goal.spread_one-requires-clause-room
+spread_one-requires-clause-room g c = c.requires.room_messages

@@ -1,3 +1,5 @@
+use Rattle.std.proofs.Common.{[], ◌∷◌, arith, length-append}
+use Rattle.ql_exec.specs.Execution.{effect_of}
 use Rattle.ql_store.proofs.NoteSets.{noted-push}
 use Rattle.ql_store.proofs.plain.push_noted.Goals as goal
 
@@ -5,3 +7,28 @@ pub returns-clause-noted : goal.returns-clause-noted
 returns-clause-noted c =
     noted-push c.args.x.now c.push_lawful.new.x c.args.draft c.in_ok-id.id c.get.result.now c.args.sessions.now c.note.new.self
     c.in_ok-id.ensures.made c.in_ok-id.ensures.number c.get.ensures c.requires.noted c.in-Ok.ensures.ok
+
+pub push_lawful-requires-clause-room : goal.push_lawful-requires-clause-room
+push_lawful-requires-clause-room c = c.requires.room
+
+pub push_lawful-requires-clause-lawful : goal.push_lawful-requires-clause-lawful
+push_lawful-requires-clause-lawful c = c.requires.lawful
+
+pub get-requires-clause-first : goal.get-requires-clause-first
+get-requires-clause-first c = rw c.in_ok-id.ensures.number (omega arith)
+
+pub get-requires-clause-last : goal.get-requires-clause-last
+get-requires-clause-last c =
+    let x = c.args.x.now in
+    rw (c.in_ok-id.ensures.number, c.in_ok-id.ensures.made) (omega (arith, length-append x (effect_of x c.args.draft ∷ [])))
+
+pub pop-requires : goal.pop-requires
+pop-requires c =
+    let x = c.args.x.now in
+    rw c.in_ok-id.ensures.made (omega (arith, length-append x (effect_of x c.args.draft ∷ [])))
+
+pub returns-clause-number : goal.returns-clause-number
+returns-clause-number c = c.in_ok-id.ensures.number
+
+pub returns-clause-made : goal.returns-clause-made
+returns-clause-made c = c.in_ok-id.ensures.made

@@ -26,14 +26,14 @@ of-requires c = rw c.in_ok-push.ensures.items (record {
 
 pub returns-then-is_at : goal.returns-then-is_at
 returns-then-is_at c = (
-  within c.args.bytes.now c.in_ok-element.behind 125 (cc),
-  rw (c.of.ensures, c.in_ok-push.ensures.items) (set_last c.args.bytes.now c.args.first c.loop.at c.args.room c.loop.counter c.loop.elements.items c.loop-test.true c.loop.invariant.same c.in_ok-element.behind c.in_ok-element.element c.in_ok-element.ensures.1 (rw c.deref.ensures.value at (sym c.element_follows.ensures ∙ c.if-not-element_follows.false)) (cc)),
+  within c.args.bytes.now c.in_ok-element.behind 125 (sym c.is_at.ensures ∙ c.if-is_at.true),
+  rw (c.of.ensures, c.in_ok-push.ensures.items) (set_last c.args.bytes.now c.args.first c.loop.at c.args.room c.loop.counter c.loop.elements.items c.loop-test.true c.loop.invariant.same c.in_ok-element.behind c.in_ok-element.element c.in_ok-element.ensures.1 (rw c.deref.ensures.value at (sym c.element_follows.ensures ∙ c.if-not-element_follows.false)) (sym c.is_at.ensures ∙ c.if-is_at.true)),
 )
 
 pub returns-then-not-is_at : goal.returns-then-not-is_at
 returns-then-not-is_at c = (
   c.in_ok-element.ensures.0,
-  set_stop c.args.bytes.now c.args.first c.loop.at c.args.room c.loop.counter c.loop.elements.items c.loop-test.true c.loop.invariant.same c.in_ok-element.behind c.in_ok-element.element c.in_ok-element.ensures.1 (rw c.deref.ensures.value at (sym c.element_follows.ensures ∙ c.if-not-element_follows.false)) (cc) (cc),
+  set_stop c.args.bytes.now c.args.first c.loop.at c.args.room c.loop.counter c.loop.elements.items c.loop-test.true c.loop.invariant.same c.in_ok-element.behind c.in_ok-element.element c.in_ok-element.ensures.1 (rw c.deref.ensures.value at (sym c.element_follows.ensures ∙ c.if-not-element_follows.false)) (sym c.is_at.ensures ∙ c.if-is_at.false) (sym c.is_at-in-loop.ensures ∙ c.if-not-is_at.true),
 )
 
 pub loop-preserved : goal.loop-preserved
@@ -44,8 +44,20 @@ loop-preserved c = rw c.in_ok-push.ensures.items (record {
     few = few_more c.loop.elements.items c.in_ok-element.element c.loop.counter c.args.room c.loop.invariant.counted c.loop-test.true c.requires.few;
     ascends = pushed scalar_cmp scalars_total c.loop.elements.items c.in_ok-element.element c.loop.invariant.rule.ascends (rw c.deref.ensures.value at (sym c.element_follows.ensures ∙ c.if-not-element_follows.false));
   };
-  same = set_more c.args.bytes.now c.args.first c.loop.at c.args.room c.loop.counter c.loop.elements.items c.loop-test.true c.loop.invariant.same c.in_ok-element.behind c.in_ok-element.element c.in_ok-element.ensures.1 c.spaces_end-at.result (rw c.deref.ensures.value at (sym c.element_follows.ensures ∙ c.if-not-element_follows.false)) (cc) (cc) c.spaces_end-at.ensures.end;
+  same = set_more c.args.bytes.now c.args.first c.loop.at c.args.room c.loop.counter c.loop.elements.items c.loop-test.true c.loop.invariant.same c.in_ok-element.behind c.in_ok-element.element c.in_ok-element.ensures.1 c.spaces_end-at.result (rw c.deref.ensures.value at (sym c.element_follows.ensures ∙ c.if-not-element_follows.false)) (sym c.is_at.ensures ∙ c.if-is_at.false) (sym c.is_at-in-loop.ensures ∙ c.if-not-is_at.false) c.spaces_end-at.ensures.end;
 })
 
 pub returns : goal.returns
 returns c = (c.loop.invariant.within, set_full c.args.bytes.now c.args.first c.loop.at c.args.room c.loop.counter c.loop.elements.items (omega arith) c.loop.invariant.same)
+
+pub scalar-requires : goal.scalar-requires
+scalar-requires c = c.loop.invariant.within
+
+pub is_at-requires : goal.is_at-requires
+is_at-requires c = c.in_ok-element.ensures.0
+
+pub is_at-requires-in-loop : goal.is_at-requires-in-loop
+is_at-requires-in-loop c = c.in_ok-element.ensures.0
+
+pub spaces_end-at-requires : goal.spaces_end-at-requires
+spaces_end-at-requires c = within c.args.bytes.now c.in_ok-element.behind 44 (sym c.is_at-in-loop.ensures ∙ c.if-not-is_at.false)

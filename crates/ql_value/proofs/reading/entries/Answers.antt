@@ -31,14 +31,14 @@ of-requires c = rw c.in_ok-push.ensures.items (record {
 
 pub returns-then-is_at : goal.returns-then-is_at
 returns-then-is_at c = (
-  within c.args.bytes.now c.in_ok-value.behind 125 (cc),
-  rw (c.of.ensures, c.in_ok-push.ensures.items) (map_last c.args.bytes.now c.args.first c.loop.at c.args.room c.loop.counter c.loop.entries.items c.loop-test.true c.loop.invariant.same c.in_ok-key.behind_key c.in_ok-key.key c.in_ok-key.ensures.1 c.in_ok-value.behind c.in_ok-value.value (rw c.deref.ensures.value at (sym c.key_follows.ensures ∙ c.if-not-key_follows.false)) c.in_ok-value.ensures.1 (cc)),
+  within c.args.bytes.now c.in_ok-value.behind 125 (sym c.is_at.ensures ∙ c.if-is_at.true),
+  rw (c.of.ensures, c.in_ok-push.ensures.items) (map_last c.args.bytes.now c.args.first c.loop.at c.args.room c.loop.counter c.loop.entries.items c.loop-test.true c.loop.invariant.same c.in_ok-key.behind_key c.in_ok-key.key c.in_ok-key.ensures.1 c.in_ok-value.behind c.in_ok-value.value (rw c.deref.ensures.value at (sym c.key_follows.ensures ∙ c.if-not-key_follows.false)) c.in_ok-value.ensures.1 (sym c.is_at.ensures ∙ c.if-is_at.true)),
 )
 
 pub returns-then-not-is_at : goal.returns-then-not-is_at
 returns-then-not-is_at c = (
   c.in_ok-value.ensures.0,
-  map_stop c.args.bytes.now c.args.first c.loop.at c.args.room c.loop.counter c.loop.entries.items c.loop-test.true c.loop.invariant.same c.in_ok-key.behind_key c.in_ok-key.key c.in_ok-key.ensures.1 c.in_ok-value.behind c.in_ok-value.value (rw c.deref.ensures.value at (sym c.key_follows.ensures ∙ c.if-not-key_follows.false)) c.in_ok-value.ensures.1 (cc) (cc),
+  map_stop c.args.bytes.now c.args.first c.loop.at c.args.room c.loop.counter c.loop.entries.items c.loop-test.true c.loop.invariant.same c.in_ok-key.behind_key c.in_ok-key.key c.in_ok-key.ensures.1 c.in_ok-value.behind c.in_ok-value.value (rw c.deref.ensures.value at (sym c.key_follows.ensures ∙ c.if-not-key_follows.false)) c.in_ok-value.ensures.1 (sym c.is_at.ensures ∙ c.if-is_at.false) (sym c.is_at-in-loop.ensures ∙ c.if-not-is_at.true),
 )
 
 pub loop-preserved : goal.loop-preserved
@@ -49,8 +49,23 @@ loop-preserved c = rw c.in_ok-push.ensures.items (record {
     few = few_more c.loop.entries.items (c.in_ok-key.key, c.in_ok-value.value) c.loop.counter c.args.room c.loop.invariant.counted c.loop-test.true c.requires.few;
     ascends = pushed key_cmp keys_total c.loop.entries.items (c.in_ok-key.key, c.in_ok-value.value) c.loop.invariant.rule.ascends (follows_key c.loop.entries.items c.in_ok-key.key c.in_ok-value.value (rw c.deref.ensures.value at (sym c.key_follows.ensures ∙ c.if-not-key_follows.false)));
   };
-  same = map_more c.args.bytes.now c.args.first c.loop.at c.args.room c.loop.counter c.loop.entries.items c.loop-test.true c.loop.invariant.same c.in_ok-key.behind_key c.in_ok-key.key c.in_ok-key.ensures.1 c.in_ok-value.behind c.in_ok-value.value (rw c.deref.ensures.value at (sym c.key_follows.ensures ∙ c.if-not-key_follows.false)) c.in_ok-value.ensures.1 c.spaces_end-at.result (cc) (cc) c.spaces_end-at.ensures.end;
+  same = map_more c.args.bytes.now c.args.first c.loop.at c.args.room c.loop.counter c.loop.entries.items c.loop-test.true c.loop.invariant.same c.in_ok-key.behind_key c.in_ok-key.key c.in_ok-key.ensures.1 c.in_ok-value.behind c.in_ok-value.value (rw c.deref.ensures.value at (sym c.key_follows.ensures ∙ c.if-not-key_follows.false)) c.in_ok-value.ensures.1 c.spaces_end-at.result (sym c.is_at.ensures ∙ c.if-is_at.false) (sym c.is_at-in-loop.ensures ∙ c.if-not-is_at.false) c.spaces_end-at.ensures.end;
 })
 
 pub returns : goal.returns
 returns c = (c.loop.invariant.within, map_full c.args.bytes.now c.args.first c.loop.at c.args.room c.loop.counter c.loop.entries.items (omega arith) c.loop.invariant.same)
+
+pub scalar-requires : goal.scalar-requires
+scalar-requires c = c.loop.invariant.within
+
+pub is_at-requires : goal.is_at-requires
+is_at-requires c = c.in_ok-value.ensures.0
+
+pub is_at-requires-in-loop : goal.is_at-requires-in-loop
+is_at-requires-in-loop c = c.in_ok-value.ensures.0
+
+pub spaces_end-at-requires : goal.spaces_end-at-requires
+spaces_end-at-requires c = within c.args.bytes.now c.in_ok-value.behind 44 (sym c.is_at-in-loop.ensures ∙ c.if-not-is_at.false)
+
+pub entry_value-requires : goal.entry_value-requires
+entry_value-requires c = c.in_ok-key.ensures.0

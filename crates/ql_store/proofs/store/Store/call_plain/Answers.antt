@@ -1,4 +1,4 @@
-use Rattle.std.proofs.Common.{◌≡◌, ◌≢◌, ◌<◌, ◌∷◌, ◌++◌, [], ℕ, true, List, Some, None, length, map, refl, sym, subst, ap, ◌∙◌, arith}
+use Rattle.std.proofs.Common.{◌≡◌, ◌≢◌, ◌<◌, ◌+◌, ◌^◌, ◌∷◌, ◌++◌, [], ℕ, true, List, Some, None, length, map, refl, sym, subst, ap, ◌∙◌, arith}
 use Rattle.std.proofs.lemmas.List.{length-map}
 use Rattle.std.proofs.lemmas.Option.{get_or_from_slice_get}
 use Rattle.ql_exec.specs.declared.effect.Draft.{Draft}
@@ -331,3 +331,34 @@ returns-clause-step g c =
     (promises ∙ ap (λ (v : StoreState). promises_of v.levels) (sym c.self.view_is)) answer
     (subst (λ (v : StoreState). IsStep rules v.machine e end r) c.self.view_is
     (calls c.args.session c.args.replica c.args.object c.args.op c.args.args end r (goes made got sent r is))))
+
+pub op-level-requires : goal.op-level-requires
+op-level-requires g c = subst (λ (v : StoreState). c.args.op.0 < length v.levels.ops) (sym c.self.view_is) c.requires.op
+
+pub index-holder-requires : goal.index-holder-requires
+index-holder-requires g c =
+    let less = subst (λ (v : StoreState). c.args.replica.0 < length v.machine.received) (sym c.self.view_is) c.requires.replica in
+    let same = length-map c.self.inside.holders.items g.H.Holder.received in
+    omega (arith, less, same)
+
+pub make_plain-requires-clause-replica : goal.make_plain-requires-clause-replica
+make_plain-requires-clause-replica g c =
+    let less = subst (λ (v : StoreState). c.args.replica.0 < length v.machine.received) (sym c.self.view_is) c.requires.replica in
+    let same = length-map c.self.inside.holders.items g.H.Holder.received in
+    omega (arith, less, same)
+
+pub make_plain-requires-clause-room : goal.make_plain-requires-clause-room
+make_plain-requires-clause-room g c = subst (λ (v : StoreState). length v.machine.effects + 1 < 2 ^ 32) (sym c.self.view_is) c.requires.room
+
+pub make_plain-requires-clause-room_messages : goal.make_plain-requires-clause-room_messages
+make_plain-requires-clause-room_messages g c =
+    subst (λ (v : StoreState). length v.machine.messages + length v.machine.groups < 2 ^ 32) (sym c.self.view_is) c.requires.room_messages
+
+pub make_plain-requires-clause-fit : goal.make_plain-requires-clause-fit
+make_plain-requires-clause-fit g c = c.self.invariant.1
+
+pub make_plain-requires-clause-noted : goal.make_plain-requires-clause-noted
+make_plain-requires-clause-noted g c = c.self.invariant.0.noted
+
+pub make_plain-requires-clause-alone : goal.make_plain-requires-clause-alone
+make_plain-requires-clause-alone g c = refl

@@ -1,4 +1,4 @@
-use Rattle.std.proofs.Common.{◌≡◌, ◌<◌, ◌∷◌, ◌++◌, [], ℕ, true, List, Some, None, length, map, refl, sym, subst, ap, ◌∙◌}
+use Rattle.std.proofs.Common.{◌≡◌, ◌<◌, ◌+◌, ◌^◌, ◌∷◌, ◌++◌, [], ℕ, true, List, Some, None, length, map, refl, sym, subst, ap, ◌∙◌}
 use Rattle.ql_base.specs.declared.ids.DeclId.{DeclId}
 use Rattle.ql_base.specs.declared.ids.OpId.{OpId}
 use Rattle.ql_exec.specs.declared.effect.Draft.{Draft}
@@ -193,3 +193,15 @@ returns-clause-step g c =
     (promises ∙ ap (λ (v : StoreState). promises_of v.levels) (sym c.self.view_is)) answer
     (subst (λ (v : StoreState). IsStep rules v.machine e last r) c.self.view_is
     (calls c.args.session c.args.replica c.args.object c.args.op c.args.args last r step)))
+
+pub strong_draft-requires-clause-noted : goal.strong_draft-requires-clause-noted
+strong_draft-requires-clause-noted g c = c.self.invariant.0.noted
+
+pub make_strong-requires-clause-room : goal.make_strong-requires-clause-room
+make_strong-requires-clause-room g c = subst (λ (v : StoreState). length v.machine.effects + 1 < 2 ^ 32) (sym c.self.view_is) c.requires.room
+
+pub make_strong-requires-clause-fit : goal.make_strong-requires-clause-fit
+make_strong-requires-clause-fit g c = c.self.invariant.1
+
+pub make_strong-requires-clause-noted : goal.make_strong-requires-clause-noted
+make_strong-requires-clause-noted g c = c.self.invariant.0.noted
