@@ -18,21 +18,26 @@ use ql_refute::{Hint, hinted};
 use std::alloc::Global;
 
 // A literal that was made true, and the clause that forced it; a decision has none.
-#[derive(Clone, Copy, Debug)]
+#[derive(Clone, Copy)]
 pub(crate) struct Step {
     pub lit: Lit,
     pub reason: Option<Hint>,
 }
 
 // The steps, and a mark of the value of each variable.
-#[derive(Drop)]
 pub(crate) struct Trail {
     pub steps: Vec<Step>,
     pub marks: Vec<u8>,
 }
 
+impl Drop for Trail {
+    fn drop(self) {
+        let Trail { steps: _, marks: _ } = self;
+    }
+}
+
 // The result of reading a clause.
-#[derive(Clone, Copy, Debug, PartialEq, Eq)]
+#[derive(Clone, Copy)]
 pub(crate) enum Visit {
     Nothing,
     Forced,

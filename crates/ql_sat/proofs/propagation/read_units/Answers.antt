@@ -4,8 +4,8 @@ use Rattle.ql_sat.proofs.Forcing.{longer_least}
 use Rattle.ql_sat.proofs.Visiting.{watched_read}
 use Rattle.ql_sat.proofs.propagation.read_units.Goals as goal
 
-pub returns-then-eq-clause-watched : goal.returns-then-eq-clause-watched
-returns-then-eq-clause-watched c =
+pub returns-in-Conflict-clause-watched : goal.returns-in-Conflict-clause-watched
+returns-in-Conflict-clause-watched c =
     let read = c.in_ok-propagate_clause.ensures in
     λ watches done h. watched_read c.args.known.given.now (all_clauses c.args.known) c.args.known.lines.now c.loop-number.trail.steps.items c.propagate_clause.new.trail.steps.items watches.lists.items watches.pairs.items done (c.args.known.given.now.variables + 1) c.in_ok-propagate_clause.field-0 read.sound.steps read.number (c.loop-number.invariant.watched watches done h)
 
