@@ -1,5 +1,5 @@
 -- Lists of JSON values that one value is added to.
-use Rattle.std.proofs.Common.{◌≡◌, ℕ, zero, suc, ◌+◌, List, [], ◌∷◌, ◌++◌, Some, map, take, length, ◌≤◌, slice_get, refl, sym, ap, subst, arith, ◌∙◌, add-one}
+use Rattle.std.proofs.Common.{◌≡◌, ℕ, zero, suc, ◌+◌, List, [], ◌∷◌, ◌++◌, Some, map, take, length, ◌≤◌, ◌<◌, get_or, slice_get, refl, sym, ap, subst, arith, ◌∙◌, add-one}
 use Rattle.std.specs.List.{AllByRecursion}
 use Rattle.std.proofs.lemmas.List.{take_all}
 use Rattle.ql_exec.specs.declared.effect.Effect.{Effect}
@@ -30,6 +30,11 @@ one_more f xs k x before after v longer same is at =
 -- and from all of them
 pub all_made : {A : Type 0} (f : A → Data) (xs : List A) (k : ℕ) (vs : List Value) → map view vs ≡ map f (take k xs) → length xs ≤ k → map view vs ≡ map f xs
 all_made f xs k vs same all = same ∙ ap (map f) (take_all k xs all)
+
+pub id_there : (ids : List ℕ) (k : ℕ) → k < length ids → slice_get ids k ≡ Some (get_or ids k 0)
+id_there [] k h = absurd (omega (arith, h))
+id_there (i ∷ is) zero h = refl
+id_there (i ∷ is) (suc k) h = id_there is k (omega (arith, h))
 
 -- the effects with one more
 pub one_effect : (p : Program) (objects : List (List ℕ)) (id : ℕ) (x : List Effect) (k : ℕ) (e : Effect) → slice_get x k ≡ Some e
