@@ -1,5 +1,5 @@
 use Rattle.std.proofs.Common.{◌≡◌, ◌++◌, [], ◌∷◌, ◌∙◌}
-use Rattle.std.proofs.lemmas.Result.{on_ok_weaker}
+use Rattle.std.proofs.lemmas.Result.{err_from_is_err_and, on_ok_weaker}
 use Rattle.ql_atoms.specs.Atoms.{size_of}
 use Rattle.ql_cnf.specs.Circuits.{clauses_of}
 use Rattle.ql_atoms.specs.declared.atoms.Atom.TheVariants.{Is}
@@ -58,3 +58,18 @@ returns-clause-clauses c = on_ok_weaker c.add_variables.result
     c.in_ok-add_own_operation.ensures.clauses)
     h)
     c.add_variables.ensures.clauses
+
+pub returns-in_err-add_axioms-clause-clauses : goal.returns-in_err-add_axioms-clause-clauses
+returns-in_err-add_axioms-clause-clauses c = let p = err_from_is_err_and c.from_residual.result c.from_residual.ensures.1 in rw p.1 tt
+
+pub returns-in_err-add_alike_operations-clause-clauses : goal.returns-in_err-add_alike_operations-clause-clauses
+returns-in_err-add_alike_operations-clause-clauses c = let p = err_from_is_err_and c.from_residual-in_err-add_alike_operations.result c.from_residual-in_err-add_alike_operations.ensures.1 in rw p.1 tt
+
+pub returns-in_err-add_execution_axioms-clause-clauses : goal.returns-in_err-add_execution_axioms-clause-clauses
+returns-in_err-add_execution_axioms-clause-clauses c = let p = err_from_is_err_and c.from_residual-in_err-add_execution_axioms.result c.from_residual-in_err-add_execution_axioms.ensures.1 in rw p.1 tt
+
+pub returns-in_err-add_level-clause-clauses : goal.returns-in_err-add_level-clause-clauses
+returns-in_err-add_level-clause-clauses c = let p = err_from_is_err_and c.from_residual-in_err-add_level.result c.from_residual-in_err-add_level.ensures.1 in rw p.1 tt
+
+pub returns-in_err-add_own_operation-clause-clauses : goal.returns-in_err-add_own_operation-clause-clauses
+returns-in_err-add_own_operation-clause-clauses c = let p = err_from_is_err_and c.from_residual-in_err-add_own_operation.result c.from_residual-in_err-add_own_operation.ensures.1 in rw p.1 tt

@@ -1,5 +1,5 @@
 use Rattle.std.proofs.Common.{◌≡◌, ◌++◌, ◌∙◌}
-use Rattle.std.proofs.lemmas.Result.{on_ok_weaker}
+use Rattle.std.proofs.lemmas.Result.{err_from_is_err_and, on_ok_weaker}
 use Rattle.ql_atoms.specs.Atoms.{size_of}
 use Rattle.ql_cnf.specs.Circuits.{clauses_of}
 use Rattle.ql_ground.specs.Ground.{instances, all_instances, alike_operations, axioms, all_variable_operations}
@@ -63,3 +63,21 @@ returns-clause-clauses c = on_ok_weaker c.add_variables.result
     c.in_ok-add_txn_level.ensures.clauses)
     h)
     c.add_variables.ensures.clauses
+
+pub returns-in_err-add_axioms-clause-clauses : goal.returns-in_err-add_axioms-clause-clauses
+returns-in_err-add_axioms-clause-clauses c = let p = err_from_is_err_and c.from_residual.result c.from_residual.ensures.1 in rw p.1 tt
+
+pub returns-in_err-add_alike_operations-clause-clauses : goal.returns-in_err-add_alike_operations-clause-clauses
+returns-in_err-add_alike_operations-clause-clauses c = let p = err_from_is_err_and c.from_residual-in_err-add_alike_operations.result c.from_residual-in_err-add_alike_operations.ensures.1 in rw p.1 tt
+
+pub returns-in_err-add_axiom-clause-clauses : goal.returns-in_err-add_axiom-clause-clauses
+returns-in_err-add_axiom-clause-clauses c = let p = err_from_is_err_and c.from_residual-in_err-add_axiom.result c.from_residual-in_err-add_axiom.ensures.1 in rw p.1 tt
+
+pub returns-in_err-add_execution_axioms-clause-clauses : goal.returns-in_err-add_execution_axioms-clause-clauses
+returns-in_err-add_execution_axioms-clause-clauses c = let p = err_from_is_err_and c.from_residual-in_err-add_execution_axioms.result c.from_residual-in_err-add_execution_axioms.ensures.1 in rw p.1 tt
+
+pub returns-in_err-add_axioms-2-clause-clauses : goal.returns-in_err-add_axioms-2-clause-clauses
+returns-in_err-add_axioms-2-clause-clauses c = let p = err_from_is_err_and c.from_residual-in_err-add_axioms-2.result c.from_residual-in_err-add_axioms-2.ensures.1 in rw p.1 tt
+
+pub returns-in_err-add_txn_level-clause-clauses : goal.returns-in_err-add_txn_level-clause-clauses
+returns-in_err-add_txn_level-clause-clauses c = let p = err_from_is_err_and c.from_residual-in_err-add_txn_level.result c.from_residual-in_err-add_txn_level.ensures.1 in rw p.1 tt
