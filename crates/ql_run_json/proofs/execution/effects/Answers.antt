@@ -1,3 +1,4 @@
+use Rattle.std.proofs.lemmas.Result.{err_from_is_err_and}
 use Rattle.std.proofs.Common.{◌≡◌, ◌+◌, slice_get, Some, ap, sym, ◌∙◌, add-one, arith, rules}
 use Rattle.std.proofs.lemmas.List.{take_all}
 use Rattle.std.proofs.lemmas.List.Elements.{recursion_from_All}
@@ -31,3 +32,9 @@ loop-k-preserved c =
 
 pub returns : goal.returns
 returns c = view-Array c.loop-k.list ∙ ap listed (c.loop-k.invariant ∙ ap (effects_from c.args.t.now.program c.args.objects.now 1) (take_all c.loop-k.k c.args.x.now (omega arith)))
+
+pub returns-in_err-effect : goal.returns-in_err-effect
+returns-in_err-effect c = let p = err_from_is_err_and c.from_residual.result c.from_residual.ensures.1 in rw p.1 tt
+
+pub returns-in_err-push : goal.returns-in_err-push
+returns-in_err-push c = let p = err_from_is_err_and c.from_residual-in_err-push.result c.from_residual-in_err-push.ensures.1 in rw p.1 tt

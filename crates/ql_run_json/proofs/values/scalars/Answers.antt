@@ -1,3 +1,4 @@
+use Rattle.std.proofs.lemmas.Result.{err_from_is_err_and}
 use Rattle.std.proofs.Common.{◌∙◌, length, refl, ap, arith}
 use Rattle.std.proofs.lemmas.Option.{slice_get_read}
 use Rattle.serde_json.proofs.Views.{view-Array}
@@ -12,3 +13,12 @@ loop-k-preserved c =
 
 pub returns : goal.returns
 returns c = view-Array c.loop-k.list ∙ ap listed (all_made scalar_data c.args.scalars.now c.loop-k.k c.loop-k.list.items c.loop-k.invariant (omega (arith, c.loop-k-test.false)))
+
+pub returns-in_err-list : goal.returns-in_err-list
+returns-in_err-list c = let p = err_from_is_err_and c.from_residual.result c.from_residual.ensures.1 in rw p.1 tt
+
+pub returns-in_err-scalar : goal.returns-in_err-scalar
+returns-in_err-scalar c = let p = err_from_is_err_and c.from_residual-in_err-scalar.result c.from_residual-in_err-scalar.ensures.1 in rw p.1 tt
+
+pub returns-in_err-push : goal.returns-in_err-push
+returns-in_err-push c = let p = err_from_is_err_and c.from_residual-in_err-push.result c.from_residual-in_err-push.ensures.1 in rw p.1 tt
