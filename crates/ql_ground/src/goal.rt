@@ -11,7 +11,7 @@ use ql_typing::Typed;
 use std::alloc::Global;
 
 /// The question of a ground problem: is a level enough for an operation, or for a declared transaction?
-#[derive(Clone, Copy, PartialEq, Eq)]
+#[derive(Clone, Copy)]
 pub enum Goal {
     OpAt(OpId, Level),
     TxnAt(DeclId, TxnLevel),

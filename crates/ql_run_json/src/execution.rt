@@ -6,7 +6,7 @@ ghost use Rattle.ql_typing.specs.Names.{op_name};
 ghost use Rattle.ql_run_json.specs.JsonRuns.{effect_data, effects_from, member_data};
 ghost use Rattle.ql_run_json.specs.Values.{id_data, listed, payload_data, text_data, value_data};
 
-use crate::values::{ids, payload, text, value, values};
+use crate::values::{ids, payload, push_text, text, value, values};
 use ql_base::{EffId, Names, NoMemory};
 use ql_exec::{Effect, Execution, Member};
 use ql_typing::Typed;
@@ -116,7 +116,7 @@ fn member(alloc: Global, t: &Typed, member: Member) -> Result<Json, NoMemory>
         Member::Inside(run, decl) => {
             let mut list = Vec::with_capacity(alloc, 2)?;
             list.push(Json::from(run.0))?;
-            list.push(text(alloc, t.txn(decl).name.word.bytes())?)?;
+            push_text(alloc, &mut list, t.txn(decl).name.word.bytes())?;
             Ok(Json::Array(list))
         }
     }

@@ -5,7 +5,7 @@ ghost use Rattle.serde_json.specs.View.{view};
 ghost use Rattle.ql_run_json.specs.JsonRuns.{level_data, levels_data, op_level, txn_level};
 ghost use Rattle.ql_run_json.specs.Values.{listed};
 
-use crate::values::text;
+use crate::values::push_text;
 use ql_base::{DeclId, NoMemory, OpId};
 use ql_levels::{Levels, level_word, txn_word};
 use ql_typing::Typed;
@@ -57,8 +57,8 @@ fn level(alloc: Global, word: &[u8], name: &[u8], level: &[u8]) -> Result<Json, 
     ensures { IfOk result (λ json. view json ≡ level_data word.now name.now level.now) }
 {
     let mut list = Vec::with_capacity(alloc, 3)?;
-    list.push(text(alloc, word)?)?;
-    list.push(text(alloc, name)?)?;
-    list.push(text(alloc, level)?)?;
+    push_text(alloc, &mut list, word)?;
+    push_text(alloc, &mut list, name)?;
+    push_text(alloc, &mut list, level)?;
     Ok(Json::Array(list))
 }

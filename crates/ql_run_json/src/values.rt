@@ -1,6 +1,6 @@
 // Values, texts and ids as JSON: integers and Booleans as themselves, a text as a string, a unit as null, a set as the
 // list of its members, a map as that of its pairs.
-ghost use Rattle.std.specs.Prelude.{◌≡◌, ◌∷◌, [], IfOk, map};
+ghost use Rattle.std.specs.Prelude.{◌≡◌, ◌∷◌, [], ◌++◌, IfOk, OnOk, map};
 ghost use Rattle.serde_json.specs.View.{view};
 ghost use Rattle.ql_run_json.specs.Values.{
   entry_data,
@@ -23,6 +23,15 @@ pub fn text(alloc: Global, bytes: &[u8]) -> Result<Json, NoMemory>
     ensures { IfOk result (λ v. view v ≡ text_data bytes.now) }
 {
     Ok(Json::String(String::from_utf8_lossy(alloc, bytes)?))
+}
+
+/// Appends a text to a list.
+pub(crate) fn push_text(alloc: Global, list: &mut Vec<Json>, bytes: &[u8]) -> Result<(), NoMemory>
+    ensures { OnOk result
+        (map view list.new.items ≡ map view list.old.items ++ text_data bytes.now ∷ []) }
+{
+    list.push(text(alloc, bytes)?)?;
+    Ok(())
 }
 
 /// A value; a set is the list of its members, and a map that of its pairs.
@@ -86,10 +95,16 @@ fn pairs(alloc: Global, entries: &[(Scalar, Scalar)]) -> Result<Json, NoMemory>
 {
     let mut list = Vec::with_capacity(alloc, entries.len())?;
     for k in 0..entries.len() {
-        let (key, held) = &entries[k];
-        list.push(pair(scalar(alloc, key)?, scalar(alloc, held)?, alloc)?)?;
+        list.push(entry(alloc, &entries[k])?)?;
     }
     Ok(Json::Array(list))
+}
+
+fn entry(alloc: Global, entry: &(Scalar, Scalar)) -> Result<Json, NoMemory>
+    ensures { IfOk result (λ json. view json ≡ entry_data entry.now) }
+{
+    let (key, held) = entry;
+    pair(scalar(alloc, key)?, scalar(alloc, held)?, alloc)
 }
 
 /// The list of two elements.

@@ -9,11 +9,20 @@ use ql_base::NoMemory;
 use ql_cnf::Clauses;
 use std::alloc::Global;
 
-#[derive(Drop)]
 pub(crate) struct Guide {
     pub queue: Queue,
     pub watches: Watches,
     pub order: Order,
+}
+
+impl Drop for Guide {
+    fn drop(self) {
+        let Guide {
+            queue: _,
+            watches: _,
+            order: _,
+        } = self;
+    }
 }
 
 impl Guide {

@@ -8,8 +8,8 @@ ghost use Rattle.ql_refute.specs.Partial.{reading};
 ghost use Rattle.ql_refute.specs.Verdict.{hinted};
 ghost use Rattle.ql_refute.specs.declared.marks.Reading.{Reading};
 ghost use Rattle.ql_sat.specs.Settled.{IsGuarded, IsLastSeen, WatchesForced, with_lines};
-ghost use Rattle.ql_sat.specs.State.{IsAnalyzed, IsConflict, IsReady, IsSound, IsSoundSearch};
-ghost use Rattle.ql_sat.specs.Trail.{IsAsserting, IsFalseClause, IsFirstAsserting, IsFirstFrom, IsLonger, IsOneSeen, IsTurn, IsUnitClause, NoneSeen, NothingSeen, is_seen, learned_to, trail_number};
+ghost use Rattle.ql_sat.specs.State.{IsAnalyzed, IsConflict, IsSound, IsSoundSearch, IsTaken};
+ghost use Rattle.ql_sat.specs.Trail.{IsAsserting, IsFalseClause, IsFirstAsserting, IsFirstFrom, IsLonger, IsOneSeen, IsUnitClause, NoneSeen, NothingSeen, is_seen, learned_to};
 ghost use Rattle.ql_sat.specs.declared.trail.Trail.{Trail};
 ghost use Rattle.ql_sat.specs.declared.watches.Pair.{Pair};
 
@@ -26,11 +26,16 @@ use std::alloc::Global;
 use std::mem::replace;
 
 // The clause that is derived, by its variables, and the hints of its derivation, the last first.
-#[derive(Drop)]
 pub(crate) struct Analysis {
     // Whether a variable is seen: it is one of the clause's.
     pub seen: Vec<bool>,
     pub hints: Vec<Hint>,
+}
+
+impl Drop for Analysis {
+    fn drop(self) {
+        let Analysis { seen: _, hints: _ } = self;
+    }
 }
 
 impl Analysis {
@@ -96,13 +101,7 @@ pub(crate) fn learn(
     requires guarded { IsGuarded (with_lines c.now search.old.lines.items)
         search.old.trail.steps.items search.old.guide.watches.lists.items
         search.old.guide.watches.pairs.items }
-    ensures sound { OnOk result (IsSoundSearch c.now search.new) }
-    ensures ready { IfOk result (λ turn. turn ≡ Turn.More → IsReady c.now search.new) }
-    ensures turn { IfOk result (IsTurn c.now search.new.lines.items search.new.trail.marks.items) }
-    ensures number { IfOk result
-        (λ turn. turn ≡ Turn.More
-        → trail_number (c.now.variables + 1) search.old.trail.steps.items
-        < trail_number (c.now.variables + 1) search.new.trail.steps.items) }
+    ensures { IfOk result (IsTaken c.now search.old search.new) }
 {
     let known = Known {
         given: c,

@@ -20,7 +20,6 @@ const NOWHERE: u32 = u32::MAX;
 
 // The activities of the variables with a binary heap of those that may be unset (variable state
 // independent decaying sum: Moskewicz and others, "Chaff", 2001), and the last value of each.
-#[derive(Drop)]
 pub(crate) struct Order {
     activities: Vec<f64>,
     bump: f64,
@@ -28,6 +27,19 @@ pub(crate) struct Order {
     size: usize,
     places: Vec<u32>,
     phases: Vec<bool>,
+}
+
+impl Drop for Order {
+    fn drop(self) {
+        let Order {
+            activities: _,
+            bump: _,
+            heap: _,
+            size: _,
+            places: _,
+            phases: _,
+        } = self;
+    }
 }
 
 impl Order {

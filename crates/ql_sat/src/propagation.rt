@@ -4,9 +4,8 @@ ghost use Rattle.std.specs.List.{slice_index_or};
 ghost use Rattle.ql_cnf.specs.declared.lit.Lit.{Lit};
 ghost use Rattle.ql_refute.specs.Marks.{LinesInRange, marked};
 ghost use Rattle.ql_refute.specs.Verdict.{hinted};
-ghost use Rattle.ql_sat.specs.Search.{IsQuietOnNonUnits};
 ghost use Rattle.ql_sat.specs.Settled.{IsLook};
-ghost use Rattle.ql_sat.specs.State.{AreGuarded, AreVisited, AreWatched, IsConflict, IsSound, all_clauses};
+ghost use Rattle.ql_sat.specs.State.{AreGuarded, AreVisited, AreWatched, IsConflict, IsPropagated, IsSound, IsVisited, all_clauses};
 ghost use Rattle.ql_sat.specs.Trail.{trail_number};
 ghost use Rattle.ql_sat.specs.Watch.{IsAway, IsThere, index_of};
 ghost use Rattle.ql_sat.specs.declared.watches.Watches.{Watches};
@@ -37,30 +36,15 @@ pub(crate) fn propagate(
 ) -> Result<Option<Hint>, NoMemory>
     requires sound { IsSound known trail.old }
     requires watched { AreWatched known trail.old guide.old.watches guide.old.queue.done }
-    ensures sound { OnOk result (IsSound known.entry trail.new) }
-    ensures guarded { OnOk result (AreGuarded known.entry trail.new guide.new.watches) }
-    ensures watched { IfOk result
-        (λ found. IfNone found
-        (AreWatched known.entry trail.new guide.new.watches guide.new.queue.done)) }
-    ensures all { IfOk result
-        (λ found. IfNone found (guide.new.queue.done ≡ length trail.new.steps.items)) }
-    ensures quiet { IfOk result
-        (λ found. IfNone found
-        (IsQuietOnNonUnits (all_clauses known.entry).clauses trail.new.marks.items)) }
-    ensures conflict { IfOk result (λ found. IfSome found (IsConflict known.entry trail.new)) }
-    ensures number { OnOk result
-        (trail_number (known.entry.given.now.variables + 1) trail.old.steps.items
-        ≤ trail_number (known.entry.given.now.variables + 1) trail.new.steps.items) }
+    ensures { IfOk result (IsPropagated known.entry trail.old trail.new guide.new) }
 {
-    let conflict = read_units(known, trail, &mut guide.queue)?;
-    if conflict.is_some() {
-        return Ok(conflict);
+    if let Some(conflict) = read_units(known, trail, &mut guide.queue)? {
+        return Ok(Some(conflict));
     }
     let mut place = guide.queue.done;
     while place < trail.steps.len() {
-        let conflict = visit_watchers(known, place, trail, &mut guide.watches)?;
-        if conflict.is_some() {
-            return Ok(conflict);
+        if let Some(conflict) = visit_watchers(known, place, trail, &mut guide.watches)? {
+            return Ok(Some(conflict));
         }
         place += 1;
     }
@@ -83,7 +67,7 @@ fn read_units(known: Known, trail: &mut Trail, queue: &mut Queue) -> Result<Opti
 {
     while let Some(number) = queue.units.pop() {
         let hint = Hint::Given(number);
-        if propagate_clause(known, hint, trail)? == Visit::Conflict {
+        if let Visit::Conflict = propagate_clause(known, hint, trail)? {
             return Ok(Some(hint));
         }
     }
@@ -100,14 +84,7 @@ fn visit_watchers(
     requires sound { IsSound known trail.old }
     requires within { place < length trail.old.steps.items }
     requires watched { AreWatched known trail.old watches.old place }
-    ensures sound { OnOk result (IsSound known.entry trail.new) }
-    ensures guarded { OnOk result (AreGuarded known.entry trail.new watches.new) }
-    ensures watched { IfOk result
-        (λ found. IfNone found (AreWatched known.entry trail.new watches.new (place + 1))) }
-    ensures conflict { IfOk result (λ found. IfSome found (IsConflict known.entry trail.new)) }
-    ensures number { OnOk result
-        (trail_number (known.entry.given.now.variables + 1) trail.old.steps.items
-        ≤ trail_number (known.entry.given.now.variables + 1) trail.new.steps.items) }
+    ensures { IfOk result (IsVisited known.entry place trail.old trail.new watches.new) }
 {
     let falsified = trail.steps[place].lit.negated();
     let mut at = 0;

@@ -4,8 +4,7 @@ ghost use Rattle.std.specs.List.{slice_index_or};
 ghost use Rattle.ql_cnf.specs.Satisfaction.{ClausesInRange};
 ghost use Rattle.ql_refute.specs.Verdict.{hinted};
 ghost use Rattle.ql_sat.specs.Answer.{HasNumbers, IsRight};
-ghost use Rattle.ql_sat.specs.State.{IsReady, IsSoundSearch};
-ghost use Rattle.ql_sat.specs.Trail.{IsTurn, trail_number};
+ghost use Rattle.ql_sat.specs.State.{IsReady, IsTaken};
 
 use crate::Decided;
 use crate::known::Known;
@@ -50,13 +49,7 @@ pub fn decide(alloc: Global, c: &Clauses) -> Result<Decided, NoMemory>
 // Propagates, and then learns from a conflict or decides on a variable.
 fn take_turn(alloc: Global, c: &Clauses, search: &mut Search) -> Result<Turn, NoMemory>
     requires { IsReady c.now search.old }
-    ensures sound { OnOk result (IsSoundSearch c.now search.new) }
-    ensures ready { IfOk result (λ turn. turn ≡ Turn.More → IsReady c.now search.new) }
-    ensures turn { IfOk result (IsTurn c.now search.new.lines.items search.new.trail.marks.items) }
-    ensures number { IfOk result
-        (λ turn. turn ≡ Turn.More
-        → trail_number (c.now.variables + 1) search.old.trail.steps.items
-        < trail_number (c.now.variables + 1) search.new.trail.steps.items) }
+    ensures { IfOk result (IsTaken c.now search.old search.new) }
 {
     let known = Known {
         given: c,
@@ -78,13 +71,7 @@ fn take_turn(alloc: Global, c: &Clauses, search: &mut Search) -> Result<Turn, No
 fn finish(alloc: Global, c: &Clauses, search: &mut Search) -> Result<Turn, NoMemory>
     requires ready { IsReady c.now search.old }
     requires all { search.old.guide.queue.done ≡ length search.old.trail.steps.items }
-    ensures sound { OnOk result (IsSoundSearch c.now search.new) }
-    ensures ready { IfOk result (λ turn. turn ≡ Turn.More → IsReady c.now search.new) }
-    ensures turn { IfOk result (IsTurn c.now search.new.lines.items search.new.trail.marks.items) }
-    ensures number { IfOk result
-        (λ turn. turn ≡ Turn.More
-        → trail_number (c.now.variables + 1) search.old.trail.steps.items
-        < trail_number (c.now.variables + 1) search.new.trail.steps.items) }
+    ensures { IfOk result (IsTaken c.now search.old search.new) }
 {
     if let Some(var) = greatest_unset(c.variables(), &search.trail.marks) {
         let positive = search.guide.order.phase(var);

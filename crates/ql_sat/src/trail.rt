@@ -25,14 +25,19 @@ pub(crate) struct Step {
 }
 
 // The steps, and a mark of the value of each variable.
-#[derive(Drop)]
 pub(crate) struct Trail {
     pub steps: Vec<Step>,
     pub marks: Vec<u8>,
 }
 
+impl Drop for Trail {
+    fn drop(self) {
+        let Trail { steps: _, marks: _ } = self;
+    }
+}
+
 // The result of reading a clause.
-#[derive(Clone, Copy, PartialEq, Eq)]
+#[derive(Clone, Copy)]
 pub(crate) enum Visit {
     Nothing,
     Forced,

@@ -40,12 +40,17 @@ pub(crate) enum Look {
 
 // Clauses are numbered from 0, first the given ones and then the lines. A clause without literals watches
 // a literal that no clause has.
-#[derive(Drop)]
 pub(crate) struct Watches {
     // The clauses that watch a literal, for each literal.
     lists: Vec<Watchers>,
     pairs: Vec<Pair>,
     ghost listed: { AreListed lists.items pairs.items },
+}
+
+impl Drop for Watches {
+    fn drop(self) {
+        let Watches { lists: _, pairs: _ } = self;
+    }
 }
 
 impl Watches {

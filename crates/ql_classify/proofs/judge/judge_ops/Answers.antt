@@ -14,6 +14,16 @@ returns-in_err-level-clause-refused c =
     (ops_pass c.args.t.now.program c.loop-o.o c.loop-o.levels.items c.loop-o.invariant.0 (each_op_level c.args.t.now.program c.loop-o.levels.items c.loop-o.evidence.items c.loop-o.invariant.1))
     c.in_err-level.ensures.none)
 
+pub returns-in_err-push-clause-refused : goal.returns-in_err-push-clause-refused
+returns-in_err-push-clause-refused c =
+    let p = err_from_is_err_and c.from_residual-in_err-push.result c.from_residual-in_err-push.ensures.1 in
+    rw (p.1, p.2) tt
+
+pub returns-in_err-push-2-clause-refused : goal.returns-in_err-push-2-clause-refused
+returns-in_err-push-2-clause-refused c =
+    let p = err_from_is_err_and c.from_residual-in_err-push-2.result c.from_residual-in_err-push-2.ensures.1 in
+    rw (p.1, p.2) tt
+
 pub loop-o-preserved : goal.loop-o-preserved
 loop-o-preserved c = (
   omega (arith, ap length c.in_ok-push.ensures.items, length-append c.loop-o.levels.items (c.in_ok-level.level ∷ []), c.loop-o.invariant.0),

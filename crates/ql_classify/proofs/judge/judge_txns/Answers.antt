@@ -13,6 +13,16 @@ returns-in_err-level-clause-refused c =
     let within : c.loop-d.d < length c.args.t.now.program.txns = omega (arith, c.loop-d-test.true, c.txns-d-end.ensures.count) in
     rw (p.1, p.2) (refusal_upto c.args.t.now.program (length c.args.t.now.program.txns) c.loop-d.d (txn_tests c.args.t.now.program) _ within c.loop-d.invariant.2 c.in_err-level.ensures.refused)
 
+pub returns-in_err-push-clause-refused : goal.returns-in_err-push-clause-refused
+returns-in_err-push-clause-refused c =
+    let p = err_from_is_err_and c.from_residual-in_err-push.result c.from_residual-in_err-push.ensures.1 in
+    rw (p.1, p.2) tt
+
+pub returns-in_err-push-2-clause-refused : goal.returns-in_err-push-2-clause-refused
+returns-in_err-push-2-clause-refused c =
+    let p = err_from_is_err_and c.from_residual-in_err-push-2.result c.from_residual-in_err-push-2.ensures.1 in
+    rw (p.1, p.2) tt
+
 pub loop-d-preserved : goal.loop-d-preserved
 loop-d-preserved c = (
   omega (arith, ap length c.in_ok-push.ensures.items, length-append c.loop-d.levels.items (c.in_ok-level.level ∷ []), c.loop-d.invariant.0),

@@ -1,5 +1,6 @@
 use Rattle.std.proofs.Common.{◌≡◌, ◌∙◌, ℕ, suc, List, Bool, true, false, length, get_or, take, sym, ap, subst, refl, arith, ◌+◌}
 use Rattle.std.proofs.lemmas.Option.{slice_get_read}
+use Rattle.std.proofs.lemmas.Result.{err_from_is_err_and}
 use Rattle.std.proofs.lemmas.List.{length-map, length-replicate, length-take-le, take_more}
 use Rattle.ql_base.specs.IdLists.{has_id}
 use Rattle.ql_exec.specs.declared.effect.Effect.{Effect}
@@ -8,6 +9,33 @@ use Rattle.ql_formula.specs.declared.rows.Key.{Key}
 use Rattle.ql_formula.specs.Tables.{HasLasts, IsRow, IsClosedPart, key_of, step_of}
 use Rattle.ql_formula.proofs.RowLaws.{seen_within, vis_cell, none_yet, last_steps, some_too, all_steps, row_done, step_forward, step_of_seen}
 use Rattle.ql_formula.proofs.rows.closure_row.Goals as goal
+
+pub returns-in_err-row-clause-row : goal.returns-in_err-row-clause-row
+returns-in_err-row-clause-row c = let p = err_from_is_err_and c.from_residual.result c.from_residual.ensures.1 in rw p.1 tt
+
+pub returns-in_err-row-clause-lasts : goal.returns-in_err-row-clause-lasts
+returns-in_err-row-clause-lasts c = let p = err_from_is_err_and c.from_residual.result c.from_residual.ensures.1 in rw p.1 tt
+
+pub returns-in_err-replace-clause-row : goal.returns-in_err-replace-clause-row
+returns-in_err-replace-clause-row c = let p = err_from_is_err_and c.from_residual-in_err-replace.result c.from_residual-in_err-replace.ensures.1 in rw p.1 tt
+
+pub returns-in_err-replace-clause-lasts : goal.returns-in_err-replace-clause-lasts
+returns-in_err-replace-clause-lasts c = let p = err_from_is_err_and c.from_residual-in_err-replace.result c.from_residual-in_err-replace.ensures.1 in rw p.1 tt
+
+pub returns-in_err-row-clause-closure : goal.returns-in_err-row-clause-closure
+returns-in_err-row-clause-closure c = refl
+
+pub returns-in_err-replace-clause-closure : goal.returns-in_err-replace-clause-closure
+returns-in_err-replace-clause-closure c = c.in_err-replace.ensures.closure
+
+pub returns-clause-closure : goal.returns-clause-closure
+returns-clause-closure c = c.in_ok-replace.ensures.closure
+
+pub visit_last-requires-clause-lengths : goal.visit_last-requires-clause-lengths
+visit_last-requires-clause-lengths c = λ k within. let row = (c.requires.rows k within).0 in omega (arith, row)
+
+pub visit_seen-requires-clause-lengths : goal.visit_seen-requires-clause-lengths
+visit_seen-requires-clause-lengths c = λ k within. let row = (c.requires.rows k within).0 in omega (arith, row)
 
 pub visit_seen-requires-clause-within : goal.visit_seen-requires-clause-within
 visit_seen-requires-clause-within c =

@@ -1,3 +1,4 @@
+use Rattle.std.proofs.lemmas.Result.{err_from_is_err_and}
 use Rattle.std.proofs.Common.{◌≡◌, ℕ, suc, ◌+◌, ◌++◌, List, length, arith, ap, ◌∙◌}
 use Rattle.ql_cnf.specs.Circuits.{clauses_of}
 use Rattle.ql_cnf.specs.declared.lit.Lit.{Lit}
@@ -28,3 +29,15 @@ returns-clause-list c =
 
 pub returns-clause-sound : goal.returns-clause-sound
 returns-clause-sound c = op_implied c.args.types.now c.args.o.0 c.args.level (resolved_of c.args.f.now) c.deny.new.c c.requires.contract (returns-clause-list c)
+
+pub returns-in_err-add_op_groups-clause-list : goal.returns-in_err-add_op_groups-clause-list
+returns-in_err-add_op_groups-clause-list c = let p = err_from_is_err_and c.from_residual.result c.from_residual.ensures.1 in rw p.1 tt
+
+pub returns-in_err-add_op_groups-clause-sound : goal.returns-in_err-add_op_groups-clause-sound
+returns-in_err-add_op_groups-clause-sound c = let p = err_from_is_err_and c.from_residual.result c.from_residual.ensures.1 in rw p.1 tt
+
+pub returns-in_err-deny-clause-list : goal.returns-in_err-deny-clause-list
+returns-in_err-deny-clause-list c = let p = err_from_is_err_and c.from_residual-in_err-deny.result c.from_residual-in_err-deny.ensures.1 in rw p.1 tt
+
+pub returns-in_err-deny-clause-sound : goal.returns-in_err-deny-clause-sound
+returns-in_err-deny-clause-sound c = let p = err_from_is_err_and c.from_residual-in_err-deny.result c.from_residual-in_err-deny.ensures.1 in rw p.1 tt

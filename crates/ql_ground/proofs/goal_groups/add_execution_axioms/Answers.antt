@@ -1,5 +1,5 @@
 use Rattle.std.proofs.Common.{◌≡◌, ◌++◌}
-use Rattle.std.proofs.lemmas.Result.{on_ok_weaker}
+use Rattle.std.proofs.lemmas.Result.{err_from_is_err_and, on_ok_weaker}
 use Rattle.ql_atoms.specs.Atoms.{size_of}
 use Rattle.ql_cnf.specs.Circuits.{clauses_of}
 use Rattle.ql_ground.specs.Ground.{some_operation, one_operation, one_type}
@@ -18,3 +18,12 @@ returns-clause-clauses c = on_ok_weaker c.add_one_type.result
     c.in_ok-add_one_operation.ensures.clauses)
     h)
     c.add_one_type.ensures.clauses
+
+pub returns-in_err-add_relations-clause-clauses : goal.returns-in_err-add_relations-clause-clauses
+returns-in_err-add_relations-clause-clauses c = let p = err_from_is_err_and c.from_residual.result c.from_residual.ensures.1 in rw p.1 tt
+
+pub returns-in_err-add_some_operation-clause-clauses : goal.returns-in_err-add_some_operation-clause-clauses
+returns-in_err-add_some_operation-clause-clauses c = let p = err_from_is_err_and c.from_residual-in_err-add_some_operation.result c.from_residual-in_err-add_some_operation.ensures.1 in rw p.1 tt
+
+pub returns-in_err-add_one_operation-clause-clauses : goal.returns-in_err-add_one_operation-clause-clauses
+returns-in_err-add_one_operation-clause-clauses c = let p = err_from_is_err_and c.from_residual-in_err-add_one_operation.result c.from_residual-in_err-add_one_operation.ensures.1 in rw p.1 tt

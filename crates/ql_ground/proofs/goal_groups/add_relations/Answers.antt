@@ -1,5 +1,5 @@
 use Rattle.std.proofs.Common.{◌≡◌, ◌++◌}
-use Rattle.std.proofs.lemmas.Result.{on_ok_weaker}
+use Rattle.std.proofs.lemmas.Result.{err_from_is_err_and, on_ok_weaker}
 use Rattle.ql_atoms.specs.Atoms.{size_of}
 use Rattle.ql_cnf.specs.Circuits.{clauses_of}
 use Rattle.ql_ground.specs.Ground.{all_instances}
@@ -18,3 +18,12 @@ returns-clause-clauses c = on_ok_weaker c.add_axioms-4.result
     c.in_ok-add_axioms-3.ensures.clauses)
     h)
     c.add_axioms-4.ensures.clauses
+
+pub returns-in_err-add_axioms-clause-clauses : goal.returns-in_err-add_axioms-clause-clauses
+returns-in_err-add_axioms-clause-clauses c = let p = err_from_is_err_and c.from_residual.result c.from_residual.ensures.1 in rw p.1 tt
+
+pub returns-in_err-add_axioms-2-clause-clauses : goal.returns-in_err-add_axioms-2-clause-clauses
+returns-in_err-add_axioms-2-clause-clauses c = let p = err_from_is_err_and c.from_residual-in_err-add_axioms-2.result c.from_residual-in_err-add_axioms-2.ensures.1 in rw p.1 tt
+
+pub returns-in_err-add_axioms-3-clause-clauses : goal.returns-in_err-add_axioms-3-clause-clauses
+returns-in_err-add_axioms-3-clause-clauses c = let p = err_from_is_err_and c.from_residual-in_err-add_axioms-3.result c.from_residual-in_err-add_axioms-3.ensures.1 in rw p.1 tt

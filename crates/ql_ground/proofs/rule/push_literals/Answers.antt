@@ -1,3 +1,4 @@
+use Rattle.std.proofs.lemmas.Result.{err_from_is_err_and}
 use Rattle.std.proofs.Common.{◌≤◌, ◌++◌, ◌∷◌, [], ap, ◌∙◌, sym, subst, List}
 use Rattle.std.proofs.lemmas.List.Elements.{All-push}
 use Rattle.ql_atoms.specs.Atoms.{size_of, count_of}
@@ -17,3 +18,9 @@ loop-a-preserved c = record {
   in_range = subst (λ (xs : List Lit). AreInRange (count_of (size_of c.args.s)) xs) (sym c.in_ok-push.ensures.items)
       (All-push (λ (x : Lit). (1 ≤ x.var) × (x.var ≤ count_of (size_of c.args.s))) c.loop-a.lits.items c.literal.result c.loop-a.invariant.in_range c.literal.ensures.in_range);
 }
+
+pub returns-in_err-push-clause-lits : goal.returns-in_err-push-clause-lits
+returns-in_err-push-clause-lits c = let p = err_from_is_err_and c.from_residual.result c.from_residual.ensures.1 in rw p.1 tt
+
+pub returns-in_err-push-clause-in_range : goal.returns-in_err-push-clause-in_range
+returns-in_err-push-clause-in_range c = let p = err_from_is_err_and c.from_residual.result c.from_residual.ensures.1 in rw p.1 tt

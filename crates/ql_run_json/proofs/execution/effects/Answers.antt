@@ -1,10 +1,14 @@
-use Rattle.std.proofs.Common.{◌≡◌, ◌+◌, slice_get, Some, ap, sym, ◌∙◌, add-one, rules}
+use Rattle.std.proofs.lemmas.Result.{err_from_is_err_and}
+use Rattle.std.proofs.Common.{◌≡◌, ◌+◌, slice_get, Some, ap, sym, ◌∙◌, add-one, arith, rules}
+use Rattle.std.proofs.lemmas.List.{take_all}
 use Rattle.std.proofs.lemmas.List.Elements.{recursion_from_All}
 use Rattle.ql_exec.specs.declared.effect.Effect.{Effect}
 use Rattle.ql_exec.specs.Effects.{effect_at}
 use Rattle.ql_run_text.specs.EffectTexts.{IsNamed}
 use Rattle.std.specs.Prelude.{length}
+use Rattle.serde_json.proofs.Views.{view-Array}
 use Rattle.ql_run_json.specs.JsonRuns.{effects_from}
+use Rattle.ql_run_json.specs.Values.{listed}
 use Rattle.ql_run_json.proofs.Lists.{effect_there, more_effects}
 use Rattle.ql_run_json.proofs.execution.effects.Goals as goal
 
@@ -25,3 +29,12 @@ loop-k-preserved c =
     let e = c.get.result.now in
     let at : slice_get x c.loop-k.k ≡ Some e = sym (ap (λ n. effect_at x n) (add-one c.loop-k.k)) ∙ c.get.ensures in
     more_effects c.args.t.now.program c.args.objects.now x c.loop-k.k e _ _ c.in_ok-effect.effect c.in_ok-push.ensures.items c.loop-k.invariant c.in_ok-effect.ensures at
+
+pub returns : goal.returns
+returns c = view-Array c.loop-k.list ∙ ap listed (c.loop-k.invariant ∙ ap (effects_from c.args.t.now.program c.args.objects.now 1) (take_all c.loop-k.k c.args.x.now (omega arith)))
+
+pub returns-in_err-effect : goal.returns-in_err-effect
+returns-in_err-effect c = let p = err_from_is_err_and c.from_residual.result c.from_residual.ensures.1 in rw p.1 tt
+
+pub returns-in_err-push : goal.returns-in_err-push
+returns-in_err-push c = let p = err_from_is_err_and c.from_residual-in_err-push.result c.from_residual-in_err-push.ensures.1 in rw p.1 tt

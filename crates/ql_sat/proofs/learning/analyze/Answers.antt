@@ -1,3 +1,4 @@
+use Rattle.std.proofs.lemmas.Result.{err_from_is_err_and}
 use Rattle.std.proofs.Common.{◌≡◌, ◌<◌, ◌-◌, ◌+◌, ℕ, Some, length, arith, refl, subst}
 use Rattle.std.proofs.lemmas.Option.{slice_get_read}
 use Rattle.std.specs.List.{slice_get}
@@ -21,3 +22,21 @@ loop-place-preserved-in_ok-resolve c =
       analyzed = c.in_ok-resolve.ensures.analyzed c.args.trail.now (c.loop-place.place - 1) c.requires.sound here (subst (λ (n : ℕ). IsAnalyzed c.args.known c.args.trail.now n c.loop-place.analysis) next c.loop-place.invariant.analyzed);
       seen = c.in_ok-resolve.ensures.seen;
     }
+
+pub returns-in_err-begin-clause-analyzed : goal.returns-in_err-begin-clause-analyzed
+returns-in_err-begin-clause-analyzed c = let p = err_from_is_err_and c.from_residual.result c.from_residual.ensures.1 in rw p.1 tt
+
+pub returns-in_err-begin-clause-found : goal.returns-in_err-begin-clause-found
+returns-in_err-begin-clause-found c = let p = err_from_is_err_and c.from_residual.result c.from_residual.ensures.1 in rw p.1 tt
+
+pub returns-in_err-begin-clause-seen : goal.returns-in_err-begin-clause-seen
+returns-in_err-begin-clause-seen c = let p = err_from_is_err_and c.from_residual.result c.from_residual.ensures.1 in rw p.1 tt
+
+pub returns-in_err-resolve-clause-analyzed : goal.returns-in_err-resolve-clause-analyzed
+returns-in_err-resolve-clause-analyzed c = let p = err_from_is_err_and c.from_residual-in_err-resolve.result c.from_residual-in_err-resolve.ensures.1 in rw p.1 tt
+
+pub returns-in_err-resolve-clause-found : goal.returns-in_err-resolve-clause-found
+returns-in_err-resolve-clause-found c = let p = err_from_is_err_and c.from_residual-in_err-resolve.result c.from_residual-in_err-resolve.ensures.1 in rw p.1 tt
+
+pub returns-in_err-resolve-clause-seen : goal.returns-in_err-resolve-clause-seen
+returns-in_err-resolve-clause-seen c = let p = err_from_is_err_and c.from_residual-in_err-resolve.result c.from_residual-in_err-resolve.ensures.1 in rw p.1 tt

@@ -3,11 +3,6 @@ use Rattle.ql_sat.specs.State.{AreWatched, all_clauses}
 use Rattle.ql_sat.proofs.Watching.{watched_quiet}
 use Rattle.ql_sat.proofs.propagation.propagate.Goals as goal
 
-pub returns-then-is_some-clause-guarded : goal.returns-then-is_some-clause-guarded
-returns-then-is_some-clause-guarded c =
-    let watched = c.in_ok-conflict.ensures.watched c.args.guide.now.watches c.args.guide.now.queue.done c.requires.watched in
-    watched.guarded
-
 pub loop-place-init : goal.loop-place-init
 loop-place-init c = record {
   sound = c.in_ok-conflict.ensures.sound;
@@ -15,7 +10,15 @@ loop-place-init c = record {
   number = c.in_ok-conflict.ensures.number;
 }
 
-pub returns-clause-quiet : goal.returns-clause-quiet
-returns-clause-quiet c =
+pub returns : goal.returns
+returns c =
     let all : c.loop-place.place ≡ length c.loop-place.trail.steps.items = omega (arith, c.loop-place-test.false, c.len.ensures, c.loop-place.trail.steps.ok.0, c.loop-place.invariant.watched.within) in
-    watched_quiet (all_clauses c.args.known) c.loop-place.trail.steps.items c.loop-place.trail.marks.items c.loop-place.guide.watches.lists.items c.loop-place.guide.watches.pairs.items c.loop-place.place c.loop-place.invariant.sound.values c.loop-place.invariant.watched all
+    record {
+      sound = c.loop-place.invariant.sound;
+      guarded = c.loop-place.invariant.watched.guarded;
+      watched = c.loop-place.invariant.watched;
+      all = all;
+      quiet = watched_quiet (all_clauses c.args.known) c.loop-place.trail.steps.items c.loop-place.trail.marks.items c.loop-place.guide.watches.lists.items c.loop-place.guide.watches.pairs.items c.loop-place.place c.loop-place.invariant.sound.values c.loop-place.invariant.watched all;
+      conflict = tt;
+      number = c.loop-place.invariant.number;
+    }

@@ -1,3 +1,4 @@
+use Rattle.std.proofs.lemmas.Result.{err_from_is_err_and}
 use Rattle.std.proofs.Common.{◌≡◌, ◌≢◌, ◌+◌, Some, [], get_or, inl, inr, true, sym, ◌∙◌, ap, subst, arith}
 use Rattle.ql_cnf.specs.declared.lit.Lit.{Lit}
 use Rattle.ql_refute.specs.Marks.{marked}
@@ -42,3 +43,33 @@ returns-in_default c =
       conflict = tt;
       number = longer_least c.in_ok-propagate_clause-in-Read.field-0 (c.args.known.given.now.variables + 1) c.args.trail.now.steps.items c.propagate_clause.new.trail.steps.items read.number;
     }
+
+pub returns-in_err-change-in-Move-clause-sound : goal.returns-in_err-change-in-Move-clause-sound
+returns-in_err-change-in-Move-clause-sound c = let p = err_from_is_err_and c.from_residual.result c.from_residual.ensures.1 in rw p.1 tt
+
+pub returns-in_err-change-in-Move-clause-visited : goal.returns-in_err-change-in-Move-clause-visited
+returns-in_err-change-in-Move-clause-visited c = let p = err_from_is_err_and c.from_residual.result c.from_residual.ensures.1 in rw p.1 tt
+
+pub returns-in_err-change-in-Move-clause-fewer : goal.returns-in_err-change-in-Move-clause-fewer
+returns-in_err-change-in-Move-clause-fewer c = let p = err_from_is_err_and c.from_residual.result c.from_residual.ensures.1 in rw p.1 tt
+
+pub returns-in_err-change-in-Move-clause-conflict : goal.returns-in_err-change-in-Move-clause-conflict
+returns-in_err-change-in-Move-clause-conflict c = let p = err_from_is_err_and c.from_residual.result c.from_residual.ensures.1 in rw p.1 tt
+
+pub returns-in_err-change-in-Move-clause-number : goal.returns-in_err-change-in-Move-clause-number
+returns-in_err-change-in-Move-clause-number c = let p = err_from_is_err_and c.from_residual.result c.from_residual.ensures.1 in rw p.1 tt
+
+pub returns-in_err-propagate_clause-in-Read-clause-sound : goal.returns-in_err-propagate_clause-in-Read-clause-sound
+returns-in_err-propagate_clause-in-Read-clause-sound c = let p = err_from_is_err_and c.from_residual-in_err-propagate_clause-in-Read.result c.from_residual-in_err-propagate_clause-in-Read.ensures.1 in rw p.1 tt
+
+pub returns-in_err-propagate_clause-in-Read-clause-visited : goal.returns-in_err-propagate_clause-in-Read-clause-visited
+returns-in_err-propagate_clause-in-Read-clause-visited c = let p = err_from_is_err_and c.from_residual-in_err-propagate_clause-in-Read.result c.from_residual-in_err-propagate_clause-in-Read.ensures.1 in rw p.1 tt
+
+pub returns-in_err-propagate_clause-in-Read-clause-fewer : goal.returns-in_err-propagate_clause-in-Read-clause-fewer
+returns-in_err-propagate_clause-in-Read-clause-fewer c = let p = err_from_is_err_and c.from_residual-in_err-propagate_clause-in-Read.result c.from_residual-in_err-propagate_clause-in-Read.ensures.1 in rw p.1 tt
+
+pub returns-in_err-propagate_clause-in-Read-clause-conflict : goal.returns-in_err-propagate_clause-in-Read-clause-conflict
+returns-in_err-propagate_clause-in-Read-clause-conflict c = let p = err_from_is_err_and c.from_residual-in_err-propagate_clause-in-Read.result c.from_residual-in_err-propagate_clause-in-Read.ensures.1 in rw p.1 tt
+
+pub returns-in_err-propagate_clause-in-Read-clause-number : goal.returns-in_err-propagate_clause-in-Read-clause-number
+returns-in_err-propagate_clause-in-Read-clause-number c = let p = err_from_is_err_and c.from_residual-in_err-propagate_clause-in-Read.result c.from_residual-in_err-propagate_clause-in-Read.ensures.1 in rw p.1 tt

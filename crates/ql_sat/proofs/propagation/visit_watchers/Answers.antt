@@ -25,11 +25,17 @@ pub visit-requires-clause-hint : goal.visit-requires-clause-hint
 visit-requires-clause-hint c =
     λ l. hint_names c.args.known.given.now c.args.known.lines.now c.in-Some.clause (2 ^ 64) c.hint_of-hint.result (omega (arith, l, c.loop-clause.invariant.visited.guarded.counted, c.loop-clause.watches.pairs.ok.0, c.loop-clause.watches.pairs.small)) c.hint_of-hint.ensures.given c.hint_of-hint.ensures.learned l
 
-pub returns-clause-watched : goal.returns-clause-watched
-returns-clause-watched c =
+pub returns : goal.returns
+returns c =
     let visiting = c.loop-clause.invariant.visited in
     record {
+      sound = c.loop-clause.invariant.sound;
       guarded = visiting.guarded;
-      within = omega (arith, visiting.within);
-      settled = visiting_end (all_clauses c.args.known) c.loop-clause.trail.steps.items c.loop-clause.watches.lists.items c.loop-clause.watches.pairs.items c.args.place c.loop-clause.at c.negated-falsified.result c.in_default.ensures.none visiting;
+      watched = record {
+        guarded = visiting.guarded;
+        within = omega (arith, visiting.within);
+        settled = visiting_end (all_clauses c.args.known) c.loop-clause.trail.steps.items c.loop-clause.watches.lists.items c.loop-clause.watches.pairs.items c.args.place c.loop-clause.at c.negated-falsified.result c.in_default.ensures.none visiting;
+      };
+      conflict = tt;
+      number = c.loop-clause.invariant.number;
     }

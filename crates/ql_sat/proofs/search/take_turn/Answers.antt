@@ -1,16 +1,22 @@
-use Rattle.std.proofs.Common.{◌≡◌, length}
+use Rattle.std.proofs.Common.{◌≡◌, length, arith}
 use Rattle.ql_sat.specs.Settled.{with_lines, IsWatched}
 use Rattle.ql_sat.proofs.Watching.{watched_decided}
 use Rattle.ql_sat.proofs.search.take_turn.Goals as goal
 
-pub returns-in-Some-next-clause-ready : goal.returns-in-Some-next-clause-ready
-returns-in-Some-next-clause-ready c =
+pub returns-in-Some-next : goal.returns-in-Some-next
+returns-in-Some-next c =
     let after = rw c.deref.ensures.value at c.in_ok-conflict.ensures.sound in
     let watched : IsWatched (with_lines c.args.c.now c.args.search.now.lines.items) c.propagate.new.trail.steps.items c.propagate.new.guide.watches.lists.items c.propagate.new.guide.watches.pairs.items c.propagate.new.guide.queue.done = rw (c.deref.ensures.value, c.in_default.is) at c.in_ok-conflict.ensures.watched in
     let all : c.propagate.new.guide.queue.done ≡ length c.propagate.new.trail.steps.items = rw c.in_default.is at c.in_ok-conflict.ensures.all in
     let sound = c.in_ok-decide_on.ensures.searching c.args.c.now c.args.search.now.lines.items after in
-    λ e. record {
+    let greater = c.in_ok-decide_on.ensures.number c.args.c.now c.args.search.now.lines.items after in
+    record {
       sound = sound;
-      watched = watched_decided c.args.c.now (with_lines c.args.c.now c.args.search.now.lines.items) c.args.search.now.lines.items c.propagate.new.trail.steps.items c.decide_on.new.trail.steps.items c.propagate.new.guide.watches.lists.items c.propagate.new.guide.watches.pairs.items c.propagate.new.guide.queue.done _ c.in_ok-decide_on.ensures.pushed sound.steps all watched;
-      seen = c.requires.seen;
+      ready = λ e. record {
+        sound = sound;
+        watched = watched_decided c.args.c.now (with_lines c.args.c.now c.args.search.now.lines.items) c.args.search.now.lines.items c.propagate.new.trail.steps.items c.decide_on.new.trail.steps.items c.propagate.new.guide.watches.lists.items c.propagate.new.guide.watches.pairs.items c.propagate.new.guide.queue.done _ c.in_ok-decide_on.ensures.pushed sound.steps all watched;
+        seen = c.requires.seen;
+      };
+      turn = tt;
+      number = λ e. omega (arith, c.in_ok-conflict.ensures.number, greater);
     }

@@ -1,3 +1,4 @@
+use Rattle.std.proofs.lemmas.Result.{err_from_is_err_and}
 use Rattle.std.proofs.Common.{◌≡◌, ◌<◌, Some, length, arith, refl, sym, ◌∙◌}
 use Rattle.ql_refute.specs.Marks.{marked}
 use Rattle.ql_refute.specs.Partial.{reading}
@@ -36,3 +37,18 @@ returns-in_ok-push-in-Forces-clause-forced c =
     let inside = forced_in_range c.args.known.given.now.variables (marked c.args.trail.now.marks.items) c.in-Some.clause.now c.in-Forces.lit forces c.in-Some.ensures.in_range in
     let below : c.in-Forces.lit.var < length c.args.trail.now.marks.items = omega (arith, inside.1, c.requires.room) in
     λ d x names reads. rw c.in_ok-push-in-Forces.ensures.marks (forced_there c.args.known.given.now c.args.known.lines.now c.args.trail.now.marks.items c.args.hint c.in-Some.clause.now d c.in-Forces.lit x (sym c.in-Some.ensures.clause) names forces reads below)
+
+pub returns-in_err-push-in-Forces-clause-sound : goal.returns-in_err-push-in-Forces-clause-sound
+returns-in_err-push-in-Forces-clause-sound c = let p = err_from_is_err_and c.from_residual.result c.from_residual.ensures.1 in rw p.1 tt
+
+pub returns-in_err-push-in-Forces-clause-conflict : goal.returns-in_err-push-in-Forces-clause-conflict
+returns-in_err-push-in-Forces-clause-conflict c = let p = err_from_is_err_and c.from_residual.result c.from_residual.ensures.1 in rw p.1 tt
+
+pub returns-in_err-push-in-Forces-clause-visit : goal.returns-in_err-push-in-Forces-clause-visit
+returns-in_err-push-in-Forces-clause-visit c = let p = err_from_is_err_and c.from_residual.result c.from_residual.ensures.1 in rw p.1 tt
+
+pub returns-in_err-push-in-Forces-clause-forced : goal.returns-in_err-push-in-Forces-clause-forced
+returns-in_err-push-in-Forces-clause-forced c = let p = err_from_is_err_and c.from_residual.result c.from_residual.ensures.1 in rw p.1 tt
+
+pub returns-in_err-push-in-Forces-clause-number : goal.returns-in_err-push-in-Forces-clause-number
+returns-in_err-push-in-Forces-clause-number c = let p = err_from_is_err_and c.from_residual.result c.from_residual.ensures.1 in rw p.1 tt
