@@ -1,3 +1,4 @@
+use Rattle.std.proofs.lemmas.Result.{err_from_is_err_and}
 use Rattle.std.proofs.Common.{◌++◌, List, None, ap, sym, subst, ◌∙◌}
 use Rattle.std.proofs.lemmas.Bool.{false≢true}
 use Rattle.ql_cnf.specs.declared.lit.Lit.{Lit}
@@ -18,3 +19,6 @@ pub returns : goal.returns
 returns c =
     let read = c.loop-field.literals.items in
     no_colon_left read (fields_of c.args.text.now) (c.loop-field.invariant.0 ∙ ap (λ (r : Fields). clause_fields read ++ r) c.in_default.ensures) c.loop-field.invariant.1
+
+pub returns-in_err-push : goal.returns-in_err-push
+returns-in_err-push c = let p = err_from_is_err_and c.from_residual.result c.from_residual.ensures.1 in rw p.1 tt

@@ -1,3 +1,4 @@
+use Rattle.std.proofs.lemmas.Result.{err_from_is_err_and}
 use Rattle.std.proofs.Common.{◌≡◌, ◌∙◌, sym, refl, true, length, nat_le, arith, rules, tests}
 use Rattle.std.specs.List.{list_all}
 use Rattle.std.proofs.lemmas.Bool.Decides.{nat_tests}
@@ -12,3 +13,6 @@ returns-in_ok-from_slice c =
     let all : list_all is_text_byte c.args.literal.now ≡ true = rw (← c.items-bytes.ensures) (sym f ∙ c.if-all.true) in
     let short : nat_le (length c.args.literal.now) 64 ≡ true = rw (← c.items-bytes.ensures) (let h = c.if-bytes-le-MAX_TEXT_BYTES.true in grind (arith, nat_tests)) in
     rw (c.of.ensures, c.in_ok-from_slice.ensures.items, c.items-bytes.ensures, short, all) refl
+
+pub returns-in_err-from_slice : goal.returns-in_err-from_slice
+returns-in_err-from_slice c = let p = err_from_is_err_and c.from_residual.result c.from_residual.ensures.1 in rw p.1 tt

@@ -1,3 +1,4 @@
+use Rattle.std.proofs.lemmas.Result.{err_from_is_err_and}
 use Rattle.std.proofs.Common.{◌≡◌, ℕ, nat_le, false, None, arith, ap, sym, ◌∙◌}
 use Rattle.std.specs.Prelude.{◌||◌}
 use Rattle.std.proofs.lemmas.Bool.Decides.{nat_tests}
@@ -76,3 +77,6 @@ returns-in-Heal c = sym (ap (event_of c.args.t.now.program c.args.so_far.now) c.
 
 pub returns : goal.returns
 returns c = ap (λ (near : ReplicaId). event.Join near c.in-Join.copy) c.replica.ensures ∙ sym (ap (event_of c.args.t.now.program c.args.so_far.now) c.in-Join.is)
+
+pub returns-in_err-groups-in-Partition : goal.returns-in_err-groups-in-Partition
+returns-in_err-groups-in-Partition c = let p = err_from_is_err_and c.from_residual.result c.from_residual.ensures.1 in rw p.1 tt

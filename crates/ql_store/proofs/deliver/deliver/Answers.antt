@@ -1,3 +1,4 @@
+use Rattle.std.proofs.lemmas.Result.{err_from_is_err_and}
 use Rattle.std.proofs.Common.{ℕ, map, sym, subst}
 use Rattle.std.proofs.lemmas.List.{length-map}
 use Rattle.ql_holder.specs.Needs.{IsPackage}
@@ -28,3 +29,6 @@ returns-in_ok-arrival-in-Ready-clause-delivered g c = λ promises n shim keeps.
     keeps c.in-Ready.ensures c.spend.ensures c.package.ensures
     (subst (λ (n : ℕ). GoWithin n c.args.net.now.messages) (sym (length-map holders g.H.Holder.received)) c.requires.receivers)
     c.in_ok-arrival-in-Ready.ensures.receipt c.reply_of.ensures
+
+pub returns-in_err-arrival-in-Ready-clause-delivered : goal.returns-in_err-arrival-in-Ready-clause-delivered
+returns-in_err-arrival-in-Ready-clause-delivered g c = let p = err_from_is_err_and c.from_residual.result c.from_residual.ensures.1 in rw p.1 tt

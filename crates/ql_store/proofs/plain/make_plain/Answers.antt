@@ -1,3 +1,4 @@
+use Rattle.std.proofs.lemmas.Result.{err_from_is_err_and}
 use Rattle.std.proofs.Common.{◌≡◌, ℕ, List, false, map, sym, subst, refl}
 use Rattle.ql_base.specs.IdLists.{has_id}
 use Rattle.ql_base.specs.declared.ids.EffId.{EffId}
@@ -40,3 +41,15 @@ spread_one-requires-clause-replica g c = c.requires.replica
 
 pub spread_one-requires-clause-room : goal.spread_one-requires-clause-room
 spread_one-requires-clause-room g c = c.requires.room_messages
+
+pub returns-in_err-id-clause-made : goal.returns-in_err-id-clause-made
+returns-in_err-id-clause-made g c = let p = err_from_is_err_and c.from_residual.result c.from_residual.ensures.1 in rw p.1 tt
+
+pub returns-in_err-id-clause-received : goal.returns-in_err-id-clause-received
+returns-in_err-id-clause-received g c = let p = err_from_is_err_and c.from_residual.result c.from_residual.ensures.1 in rw p.1 tt
+
+pub returns-in_err-id-clause-reply : goal.returns-in_err-id-clause-reply
+returns-in_err-id-clause-reply g c = let p = err_from_is_err_and c.from_residual.result c.from_residual.ensures.1 in rw p.1 tt
+
+pub returns-in_err-id-clause-sent : goal.returns-in_err-id-clause-sent
+returns-in_err-id-clause-sent g c = let p = err_from_is_err_and c.from_residual.result c.from_residual.ensures.1 in rw p.1 tt

@@ -1,3 +1,4 @@
+use Rattle.std.proofs.lemmas.Result.{err_from_is_err_and}
 use Rattle.std.proofs.Common.{[], ◌∷◌, arith, length-append}
 use Rattle.ql_exec.specs.Execution.{effect_of}
 use Rattle.ql_store.proofs.NoteSets.{noted-push}
@@ -32,3 +33,9 @@ returns-clause-number c = c.in_ok-id.ensures.number
 
 pub returns-clause-made : goal.returns-clause-made
 returns-clause-made c = c.in_ok-id.ensures.made
+
+pub returns-in_err-id-clause-made : goal.returns-in_err-id-clause-made
+returns-in_err-id-clause-made c = let p = err_from_is_err_and c.from_residual.result c.from_residual.ensures.1 in rw p.1 tt
+
+pub returns-in_err-id-clause-number : goal.returns-in_err-id-clause-number
+returns-in_err-id-clause-number c = let p = err_from_is_err_and c.from_residual.result c.from_residual.ensures.1 in rw p.1 tt

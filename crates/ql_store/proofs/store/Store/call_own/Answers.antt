@@ -1,3 +1,4 @@
+use Rattle.std.proofs.lemmas.Result.{err_from_is_err_and}
 use Rattle.std.proofs.Common.{◌≡◌, ◌<◌, ◌∷◌, ◌++◌, [], List, All, Some, length, get_or, map, refl, sym, subst, ap, ◌∙◌}
 use Rattle.ql_exec.specs.declared.effect.Draft.{Draft}
 use Rattle.ql_exec.specs.declared.effect.Effect.{Effect}
@@ -116,3 +117,6 @@ pub returns-in-Ends-clause-step : goal.returns-in-Ends-clause-step
 returns-in-Ends-clause-step g c = λ rules promises uses answer.
     calls c.args.session c.args.replica c.args.object c.args.op c.args.args _ c.in-Ends.reply
     (subst (IsAttempt rules c.args.self.now.machine (record { session = c.args.session; replica = c.args.replica; object = c.args.object; op = c.args.op; args = c.args.args })) c.in-Ends.is (c.in_ok-attempt.ensures rules promises uses answer))
+
+pub returns-in_err-attempt-clause-step : goal.returns-in_err-attempt-clause-step
+returns-in_err-attempt-clause-step g c = let p = err_from_is_err_and c.from_residual.result c.from_residual.ensures.1 in rw p.1 tt

@@ -1,3 +1,4 @@
+use Rattle.std.proofs.lemmas.Result.{err_from_is_err_and}
 use Rattle.std.proofs.Common.{◌≡◌, ◌<◌, ◌+◌, ◌^◌, ◌∷◌, ◌++◌, [], ℕ, true, List, Some, None, length, map, refl, sym, subst, ap, ◌∙◌}
 use Rattle.ql_base.specs.declared.ids.DeclId.{DeclId}
 use Rattle.ql_base.specs.declared.ids.OpId.{OpId}
@@ -205,3 +206,6 @@ make_strong-requires-clause-fit g c = c.self.invariant.1
 
 pub make_strong-requires-clause-noted : goal.make_strong-requires-clause-noted
 make_strong-requires-clause-noted g c = c.self.invariant.0.noted
+
+pub returns-in_err-draft-clause-step : goal.returns-in_err-draft-clause-step
+returns-in_err-draft-clause-step g c = let p = err_from_is_err_and c.from_residual.result c.from_residual.ensures.1 in rw p.1 tt

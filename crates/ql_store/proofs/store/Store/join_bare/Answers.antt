@@ -1,3 +1,4 @@
+use Rattle.std.proofs.lemmas.Result.{err_from_is_err_and}
 use Rattle.std.proofs.Common.{◌≡◌, ◌<◌, length, map, false, sym, subst}
 use Rattle.ql_machine.specs.declared.event.Event.TheVariants as event
 use Rattle.ql_machine.specs.Rules.{Promises, Rules}
@@ -65,3 +66,6 @@ returns-clause-step g c =
     (λ k. (rules : Rules) → rules.promises ≡ promises_of c.args.self.now.levels → IsStep rules c.args.self.now.machine (event.Join near false) (machine_of x (map got more) later fields.shim) k)
     (λ k number lists group. subst (λ (v : StoreState). (rules : Rules) → rules.promises ≡ promises_of v.levels → IsStep rules v.machine (event.Join near false) (machine_of x (map got more) later fields.shim) k) c.self.view_is
     (λ rules promises. step-bare rules x (map got holders) (map got more) net later fields.shim near kept.grouped inside group k number (got joining) lists (those rules promises)))
+
+pub returns-in_err-joining-clause-step : goal.returns-in_err-joining-clause-step
+returns-in_err-joining-clause-step g c = let p = err_from_is_err_and c.from_residual.result c.from_residual.ensures.1 in rw p.1 tt

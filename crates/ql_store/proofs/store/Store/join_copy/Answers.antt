@@ -1,3 +1,4 @@
+use Rattle.std.proofs.lemmas.Result.{err_from_is_err_and}
 use Rattle.std.proofs.Common.{◌≡◌, ◌∷◌, ◌++◌, [], ◌<◌, length, map, true, sym, subst, ap, ◌∙◌, arith}
 use Rattle.std.proofs.lemmas.List.{length-map}
 use Rattle.ql_machine.specs.declared.event.Event.TheVariants as event
@@ -57,3 +58,6 @@ returns-clause-step g c =
     (λ k. (rules : Rules) → IsStep rules c.args.self.now.machine (event.Join near true) (machine_of x (map got more) later fields.shim) k)
     (λ k number lists group. subst (λ (v : StoreState). (rules : Rules) → IsStep rules v.machine (event.Join near true) (machine_of x (map got more) later fields.shim) k) c.self.view_is
     (λ rules. step-copies rules x (map got holders) (map got more) net later fields.shim near c.self.invariant.0.grouped inside group k number (lists ∙ ap (λ ids. map got holders ++ ids ∷ []) same)))
+
+pub returns-in_err-joining-clause-step : goal.returns-in_err-joining-clause-step
+returns-in_err-joining-clause-step g c = let p = err_from_is_err_and c.from_residual.result c.from_residual.ensures.1 in rw p.1 tt
