@@ -1,3 +1,4 @@
+use Rattle.std.proofs.lemmas.Result.{err_from_is_err_and}
 use Rattle.std.proofs.Common.{refl}
 use Rattle.ql_classify.proofs.Climbing.{refuted_answer, satisfied_answer, satisfied_all}
 use Rattle.ql_classify.proofs.evidence.first_refuted.Goals as goal
@@ -13,3 +14,9 @@ loop-goal-preserved c =
 pub returns : goal.returns
 returns c =
     satisfied_all c.args.t.now.program c.args.goals.now c.loop-goal.lower.items c.pop.new.self.items c.loop-goal.goal-index c.pop.result c.unwrap.result c.loop-goal-test.false c.loop-goal.invariant c.pop.ensures.items c.unwrap.ensures
+
+pub returns-in_err-push-in-Model : goal.returns-in_err-push-in-Model
+returns-in_err-push-in-Model c = let p = err_from_is_err_and c.from_residual-in_err-push-in-Model.result c.from_residual-in_err-push-in-Model.ensures.1 in rw p.1 tt
+
+pub returns-in_err-refutation : goal.returns-in_err-refutation
+returns-in_err-refutation c = let p = err_from_is_err_and c.from_residual.result c.from_residual.ensures.1 in rw p.1 tt

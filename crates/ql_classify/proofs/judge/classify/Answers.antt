@@ -33,3 +33,21 @@ of-requires-2 c =
     (ops_pass c.args.t.now.program (length (all_ops c.args.t.now.program.types)) c.in_ok-ops.ops.items c.in_ok-ops.ensures.count levels.each)
     c.in_ok-txns.ensures.passed in
     rw c.of.ensures (classified c.args.t.now.program c.in_ok-ops.ops.items c.in_ok-ops.ops.items c.in_ok-txns.txns.items c.in_ok-ops.evidence.items c.in_ok-txns.more.items c.append.new.self.items refl c.in_ok-ops.ensures.count c.in_ok-txns.ensures.count c.in_ok-ops.ensures.evidence c.in_ok-txns.ensures.evidence c.in_ok-append.ensures.items accepted)
+
+pub returns-in_err-append-clause-accepted : goal.returns-in_err-append-clause-accepted
+returns-in_err-append-clause-accepted c = let p = err_from_is_err_and c.from_residual-in_err-append.result c.from_residual-in_err-append.ensures.1 in rw p.1 tt
+
+pub returns-in_err-append-clause-same : goal.returns-in_err-append-clause-same
+returns-in_err-append-clause-same c = let p = err_from_is_err_and c.from_residual-in_err-append.result c.from_residual-in_err-append.ensures.1 in rw p.1 tt
+
+pub returns-in_err-ops-clause-accepted : goal.returns-in_err-ops-clause-accepted
+returns-in_err-ops-clause-accepted c = let p = err_from_is_err_and c.from_residual.result c.from_residual.ensures.1 in rw p.1 tt
+
+pub returns-in_err-ops-clause-same : goal.returns-in_err-ops-clause-same
+returns-in_err-ops-clause-same c = let p = err_from_is_err_and c.from_residual.result c.from_residual.ensures.1 in rw p.1 tt
+
+pub returns-in_err-txns-clause-accepted : goal.returns-in_err-txns-clause-accepted
+returns-in_err-txns-clause-accepted c = let p = err_from_is_err_and c.from_residual-in_err-txns.result c.from_residual-in_err-txns.ensures.1 in rw p.1 tt
+
+pub returns-in_err-txns-clause-same : goal.returns-in_err-txns-clause-same
+returns-in_err-txns-clause-same c = let p = err_from_is_err_and c.from_residual-in_err-txns.result c.from_residual-in_err-txns.ensures.1 in rw p.1 tt

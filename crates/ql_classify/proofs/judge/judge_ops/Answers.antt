@@ -39,3 +39,21 @@ returns-clause-count c = c.loop-o.invariant.0 ∙ each c
 
 pub returns-clause-evidence : goal.returns-clause-evidence
 returns-clause-evidence c = c.loop-o.invariant.1
+
+pub returns-in_err-level-clause-count : goal.returns-in_err-level-clause-count
+returns-in_err-level-clause-count c = let p = err_from_is_err_and c.from_residual.result c.from_residual.ensures.1 in rw p.1 tt
+
+pub returns-in_err-level-clause-evidence : goal.returns-in_err-level-clause-evidence
+returns-in_err-level-clause-evidence c = let p = err_from_is_err_and c.from_residual.result c.from_residual.ensures.1 in rw p.1 tt
+
+pub returns-in_err-push-2-clause-count : goal.returns-in_err-push-2-clause-count
+returns-in_err-push-2-clause-count c = let p = err_from_is_err_and c.from_residual-in_err-push-2.result c.from_residual-in_err-push-2.ensures.1 in rw p.1 tt
+
+pub returns-in_err-push-2-clause-evidence : goal.returns-in_err-push-2-clause-evidence
+returns-in_err-push-2-clause-evidence c = let p = err_from_is_err_and c.from_residual-in_err-push-2.result c.from_residual-in_err-push-2.ensures.1 in rw p.1 tt
+
+pub returns-in_err-push-clause-count : goal.returns-in_err-push-clause-count
+returns-in_err-push-clause-count c = let p = err_from_is_err_and c.from_residual-in_err-push.result c.from_residual-in_err-push.ensures.1 in rw p.1 tt
+
+pub returns-in_err-push-clause-evidence : goal.returns-in_err-push-clause-evidence
+returns-in_err-push-clause-evidence c = let p = err_from_is_err_and c.from_residual-in_err-push.result c.from_residual-in_err-push.ensures.1 in rw p.1 tt

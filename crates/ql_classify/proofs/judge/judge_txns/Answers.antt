@@ -49,3 +49,30 @@ returns-clause-evidence c = c.loop-d.invariant.1
 
 pub returns-clause-passed : goal.returns-clause-passed
 returns-clause-passed c = subst (λ n. All (Passes c.args.t.now.program) (upto n (txn_tests c.args.t.now.program))) (each c) c.loop-d.invariant.2
+
+pub returns-in_err-level-clause-count : goal.returns-in_err-level-clause-count
+returns-in_err-level-clause-count c = let p = err_from_is_err_and c.from_residual.result c.from_residual.ensures.1 in rw p.1 tt
+
+pub returns-in_err-level-clause-evidence : goal.returns-in_err-level-clause-evidence
+returns-in_err-level-clause-evidence c = let p = err_from_is_err_and c.from_residual.result c.from_residual.ensures.1 in rw p.1 tt
+
+pub returns-in_err-level-clause-passed : goal.returns-in_err-level-clause-passed
+returns-in_err-level-clause-passed c = let p = err_from_is_err_and c.from_residual.result c.from_residual.ensures.1 in rw p.1 tt
+
+pub returns-in_err-push-2-clause-count : goal.returns-in_err-push-2-clause-count
+returns-in_err-push-2-clause-count c = let p = err_from_is_err_and c.from_residual-in_err-push-2.result c.from_residual-in_err-push-2.ensures.1 in rw p.1 tt
+
+pub returns-in_err-push-2-clause-evidence : goal.returns-in_err-push-2-clause-evidence
+returns-in_err-push-2-clause-evidence c = let p = err_from_is_err_and c.from_residual-in_err-push-2.result c.from_residual-in_err-push-2.ensures.1 in rw p.1 tt
+
+pub returns-in_err-push-2-clause-passed : goal.returns-in_err-push-2-clause-passed
+returns-in_err-push-2-clause-passed c = let p = err_from_is_err_and c.from_residual-in_err-push-2.result c.from_residual-in_err-push-2.ensures.1 in rw p.1 tt
+
+pub returns-in_err-push-clause-count : goal.returns-in_err-push-clause-count
+returns-in_err-push-clause-count c = let p = err_from_is_err_and c.from_residual-in_err-push.result c.from_residual-in_err-push.ensures.1 in rw p.1 tt
+
+pub returns-in_err-push-clause-evidence : goal.returns-in_err-push-clause-evidence
+returns-in_err-push-clause-evidence c = let p = err_from_is_err_and c.from_residual-in_err-push.result c.from_residual-in_err-push.ensures.1 in rw p.1 tt
+
+pub returns-in_err-push-clause-passed : goal.returns-in_err-push-clause-passed
+returns-in_err-push-clause-passed c = let p = err_from_is_err_and c.from_residual-in_err-push.result c.from_residual-in_err-push.ensures.1 in rw p.1 tt

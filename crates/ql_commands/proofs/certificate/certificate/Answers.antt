@@ -1,3 +1,4 @@
+use Rattle.std.proofs.lemmas.Result.{err_from_is_err_and}
 use Rattle.std.proofs.Common.{◌≡◌, Some, [], ◌∷◌, ◌++◌, length, arith, refl, sym, subst, ap, ◌∙◌}
 use Rattle.std.specs.List.{slice_get}
 use Rattle.ql_cert.proofs.Printing.{titled_more}
@@ -55,3 +56,21 @@ returns-clause-text c =
       printed = c.in_ok-text-3.ensures.cert all.sections all.printed;
       spells = c.in_ok-text-3.ensures.again all.sections all.printed all.spelled;
     }
+
+pub returns-in_err-text-2-clause-levels : goal.returns-in_err-text-2-clause-levels
+returns-in_err-text-2-clause-levels c = let p = err_from_is_err_and c.from_residual-in_err-text-2.result c.from_residual-in_err-text-2.ensures.1 in rw p.1 tt
+
+pub returns-in_err-text-2-clause-text : goal.returns-in_err-text-2-clause-text
+returns-in_err-text-2-clause-text c = let p = err_from_is_err_and c.from_residual-in_err-text-2.result c.from_residual-in_err-text-2.ensures.1 in rw p.1 tt
+
+pub returns-in_err-text-3-clause-levels : goal.returns-in_err-text-3-clause-levels
+returns-in_err-text-3-clause-levels c = let p = err_from_is_err_and c.from_residual-in_err-text-3.result c.from_residual-in_err-text-3.ensures.1 in rw p.1 tt
+
+pub returns-in_err-text-3-clause-text : goal.returns-in_err-text-3-clause-text
+returns-in_err-text-3-clause-text c = let p = err_from_is_err_and c.from_residual-in_err-text-3.result c.from_residual-in_err-text-3.ensures.1 in rw p.1 tt
+
+pub returns-in_err-text-clause-levels : goal.returns-in_err-text-clause-levels
+returns-in_err-text-clause-levels c = let p = err_from_is_err_and c.from_residual.result c.from_residual.ensures.1 in rw p.1 tt
+
+pub returns-in_err-text-clause-text : goal.returns-in_err-text-clause-text
+returns-in_err-text-clause-text c = let p = err_from_is_err_and c.from_residual.result c.from_residual.ensures.1 in rw p.1 tt

@@ -1,3 +1,4 @@
+use Rattle.std.proofs.lemmas.Result.{err_from_is_err_and}
 use Rattle.std.proofs.Common.{sym, subst}
 use Rattle.ql_lang.specs.declared.program.Program.{Program}
 use Rattle.ql_commands.specs.Names.{HasNames}
@@ -22,3 +23,6 @@ returns c =
 pub certificate-requires : goal.certificate-requires
 certificate-requires c =
     subst (λ (p : Program). HasNames p) (sym c.in-Ok-classify.ensures.same) (has_names c.args.source.now c.in-Ok.typed.program c.in-Ok.ensures.source.0)
+
+pub returns-in_err-certificate-in-Ok-classify : goal.returns-in_err-certificate-in-Ok-classify
+returns-in_err-certificate-in-Ok-classify c = let p = err_from_is_err_and c.from_residual.result c.from_residual.ensures.1 in rw p.1 tt

@@ -1,3 +1,4 @@
+use Rattle.std.proofs.lemmas.Result.{err_from_is_err_and}
 use Rattle.std.proofs.Common.{ℕ, List}
 use Rattle.std.proofs.lemmas.Option.{MatchOption-at_some}
 use Rattle.ql_value.specs.declared.value.Value.{Value}
@@ -31,3 +32,12 @@ returns-in_default-4 c = λ e p.
     let emit = MatchOption-at_some ((payload : Payload) (r : List ℕ) → EmitAt payload remaining r → ⊥) (λ x. EmitAt x.0 remaining x.1.now) (c.in-Some-3.payload, c.in-Some-3.rest) c.in-Some-3.is c.in_ok-payload.ensures in
     unread c.in_ok-setting.field-0 ((s : Setting) → IsSetting last s → ⊥) (λ s. IsSetting last s) c.in_ok-setting.ensures c.in_default-4.not-Some
     e.setting (setting_behind c.args.text.now c.args.id e p c.in-Some.object.now c.in-Some.op.now rest c.in-Some.ensures.2 c.in-Some-2.args c.in-Some-2.answer remaining call c.in-Some-3.payload last emit)
+
+pub returns-in_err-args : goal.returns-in_err-args
+returns-in_err-args c = let p = err_from_is_err_and c.from_residual.result c.from_residual.ensures.1 in rw p.1 tt
+
+pub returns-in_err-payload : goal.returns-in_err-payload
+returns-in_err-payload c = let p = err_from_is_err_and c.from_residual-in_err-payload.result c.from_residual-in_err-payload.ensures.1 in rw p.1 tt
+
+pub returns-in_err-setting : goal.returns-in_err-setting
+returns-in_err-setting c = let p = err_from_is_err_and c.from_residual-in_err-setting.result c.from_residual-in_err-setting.ensures.1 in rw p.1 tt

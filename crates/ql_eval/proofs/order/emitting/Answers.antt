@@ -1,3 +1,4 @@
+use Rattle.std.proofs.lemmas.Result.{err_from_is_err_and}
 use Rattle.std.proofs.Common.{◌≡◌, ◌<◌, ◌+◌, ℕ, List, [], ◌∷◌, ◌++◌, Option, length, get_or, map, take, ap, sym, ◌∙◌}
 use Rattle.std.specs.List.{cons_option, filter_map}
 use Rattle.std.specs.Option.{option_copied}
@@ -26,3 +27,9 @@ loop-id-preserved c =
 
 pub returns : goal.returns
 returns c = c.loop-id.invariant ∙ ap (filter_map (emitting_at c.args.effects.now)) (take_all c.loop-id.id-index c.args.ids.now c.loop-id-test.false)
+
+pub returns-in_err-found : goal.returns-in_err-found
+returns-in_err-found c = let p = err_from_is_err_and c.from_residual.result c.from_residual.ensures.1 in rw p.1 tt
+
+pub returns-in_err-push : goal.returns-in_err-push
+returns-in_err-push c = let p = err_from_is_err_and c.from_residual-in_err-push.result c.from_residual-in_err-push.ensures.1 in rw p.1 tt

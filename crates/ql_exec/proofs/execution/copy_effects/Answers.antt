@@ -1,6 +1,16 @@
+use Rattle.std.proofs.lemmas.Result.{err_from_is_err_and}
 use Rattle.std.proofs.Common.{◌∙◌}
 use Rattle.std.proofs.lemmas.List.{take_all}
 use Rattle.ql_exec.proofs.execution.copy_effects.Goals as goal
 
 pub returns : goal.returns
 returns c = c.loop-effect.invariant ∙ take_all c.loop-effect.effect-index c.args.effects.now c.loop-effect-test.false
+
+pub returns-in_err-copied : goal.returns-in_err-copied
+returns-in_err-copied c = let p = err_from_is_err_and c.from_residual.result c.from_residual.ensures.1 in rw p.1 tt
+
+pub returns-in_err-copy_effect : goal.returns-in_err-copy_effect
+returns-in_err-copy_effect c = let p = err_from_is_err_and c.from_residual-in_err-copy_effect.result c.from_residual-in_err-copy_effect.ensures.1 in rw p.1 tt
+
+pub returns-in_err-push : goal.returns-in_err-push
+returns-in_err-push c = let p = err_from_is_err_and c.from_residual-in_err-push.result c.from_residual-in_err-push.ensures.1 in rw p.1 tt

@@ -1,3 +1,4 @@
+use Rattle.std.proofs.lemmas.Result.{err_from_is_err_and}
 use Rattle.std.proofs.Common.{◌≡◌, ◌∙◌, ◌+◌, ◌∷◌, [], ℕ, suc, List, Bool, length, take, sym, ap, subst, arith, length-append}
 use Rattle.ql_exec.specs.Relations.{leads}
 use Rattle.ql_formula.specs.declared.rows.Closure.{Closure}
@@ -22,3 +23,21 @@ loop-k-preserved c =
       subst (λ (n : ℕ). HasLasts c.closure_row.new.lasts (take n c.args.keys.now)) next c.in_ok-closure_row.ensures.lasts,
       subst (AreRows rel) (sym pushed) (rows_push rel rows row h.3 one),
     )
+
+pub returns-in_err-closure_row-clause-count : goal.returns-in_err-closure_row-clause-count
+returns-in_err-closure_row-clause-count c = let p = err_from_is_err_and c.from_residual-in_err-closure_row.result c.from_residual-in_err-closure_row.ensures.1 in rw p.1 tt
+
+pub returns-in_err-closure_row-clause-rows : goal.returns-in_err-closure_row-clause-rows
+returns-in_err-closure_row-clause-rows c = let p = err_from_is_err_and c.from_residual-in_err-closure_row.result c.from_residual-in_err-closure_row.ensures.1 in rw p.1 tt
+
+pub returns-in_err-push-clause-count : goal.returns-in_err-push-clause-count
+returns-in_err-push-clause-count c = let p = err_from_is_err_and c.from_residual-in_err-push.result c.from_residual-in_err-push.ensures.1 in rw p.1 tt
+
+pub returns-in_err-push-clause-rows : goal.returns-in_err-push-clause-rows
+returns-in_err-push-clause-rows c = let p = err_from_is_err_and c.from_residual-in_err-push.result c.from_residual-in_err-push.ensures.1 in rw p.1 tt
+
+pub returns-in_err-rows-clause-count : goal.returns-in_err-rows-clause-count
+returns-in_err-rows-clause-count c = let p = err_from_is_err_and c.from_residual.result c.from_residual.ensures.1 in rw p.1 tt
+
+pub returns-in_err-rows-clause-rows : goal.returns-in_err-rows-clause-rows
+returns-in_err-rows-clause-rows c = let p = err_from_is_err_and c.from_residual.result c.from_residual.ensures.1 in rw p.1 tt

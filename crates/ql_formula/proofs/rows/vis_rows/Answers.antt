@@ -1,3 +1,4 @@
+use Rattle.std.proofs.lemmas.Result.{err_from_is_err_and}
 use Rattle.std.proofs.Common.{◌+◌, ◌∷◌, [], ℕ, suc, length, sym, ap, subst, arith, length-append}
 use Rattle.ql_exec.specs.Relations.{vis}
 use Rattle.ql_formula.specs.Tables.{AreRows, IsRow}
@@ -17,3 +18,21 @@ loop-k-preserved c =
 
 pub returns-clause-rows : goal.returns-clause-rows
 returns-clause-rows c = c.loop-k.invariant.1
+
+pub returns-in_err-push-clause-count : goal.returns-in_err-push-clause-count
+returns-in_err-push-clause-count c = let p = err_from_is_err_and c.from_residual-in_err-push.result c.from_residual-in_err-push.ensures.1 in rw p.1 tt
+
+pub returns-in_err-push-clause-rows : goal.returns-in_err-push-clause-rows
+returns-in_err-push-clause-rows c = let p = err_from_is_err_and c.from_residual-in_err-push.result c.from_residual-in_err-push.ensures.1 in rw p.1 tt
+
+pub returns-in_err-rows-clause-count : goal.returns-in_err-rows-clause-count
+returns-in_err-rows-clause-count c = let p = err_from_is_err_and c.from_residual.result c.from_residual.ensures.1 in rw p.1 tt
+
+pub returns-in_err-rows-clause-rows : goal.returns-in_err-rows-clause-rows
+returns-in_err-rows-clause-rows c = let p = err_from_is_err_and c.from_residual.result c.from_residual.ensures.1 in rw p.1 tt
+
+pub returns-in_err-vis_row-clause-count : goal.returns-in_err-vis_row-clause-count
+returns-in_err-vis_row-clause-count c = let p = err_from_is_err_and c.from_residual-in_err-vis_row.result c.from_residual-in_err-vis_row.ensures.1 in rw p.1 tt
+
+pub returns-in_err-vis_row-clause-rows : goal.returns-in_err-vis_row-clause-rows
+returns-in_err-vis_row-clause-rows c = let p = err_from_is_err_and c.from_residual-in_err-vis_row.result c.from_residual-in_err-vis_row.ensures.1 in rw p.1 tt

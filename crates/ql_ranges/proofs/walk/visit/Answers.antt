@@ -1,3 +1,4 @@
+use Rattle.std.proofs.lemmas.Result.{err_from_is_err_and}
 use Rattle.std.proofs.Common.{◌≡◌, List, ℕ, true, sym, subst, inl, inr}
 use Rattle.ql_exec.specs.Relations.{vis}
 use Rattle.ql_holder.specs.Closed.{Has}
@@ -69,3 +70,21 @@ returns-clause-visited c =
     (seen_other c) c.in_ok-meet_before.ensures.met
     (inr (below-more c.args.effects.now known three four c.args.e above.grows.finds c.in_ok-meet_below.ensures.met, met)))
     c.meet_above.ensures.on c.meet_above.ensures.met
+
+pub returns-in_err-meet_before-clause-on : goal.returns-in_err-meet_before-clause-on
+returns-in_err-meet_before-clause-on c = let p = err_from_is_err_and c.from_residual-in_err-meet_before.result c.from_residual-in_err-meet_before.ensures.1 in rw p.1 tt
+
+pub returns-in_err-meet_before-clause-visited : goal.returns-in_err-meet_before-clause-visited
+returns-in_err-meet_before-clause-visited c = let p = err_from_is_err_and c.from_residual-in_err-meet_before.result c.from_residual-in_err-meet_before.ensures.1 in rw p.1 tt
+
+pub returns-in_err-meet_below-clause-on : goal.returns-in_err-meet_below-clause-on
+returns-in_err-meet_below-clause-on c = let p = err_from_is_err_and c.from_residual-in_err-meet_below.result c.from_residual-in_err-meet_below.ensures.1 in rw p.1 tt
+
+pub returns-in_err-meet_below-clause-visited : goal.returns-in_err-meet_below-clause-visited
+returns-in_err-meet_below-clause-visited c = let p = err_from_is_err_and c.from_residual-in_err-meet_below.result c.from_residual-in_err-meet_below.ensures.1 in rw p.1 tt
+
+pub returns-in_err-meet_each-clause-on : goal.returns-in_err-meet_each-clause-on
+returns-in_err-meet_each-clause-on c = let p = err_from_is_err_and c.from_residual.result c.from_residual.ensures.1 in rw p.1 tt
+
+pub returns-in_err-meet_each-clause-visited : goal.returns-in_err-meet_each-clause-visited
+returns-in_err-meet_each-clause-visited c = let p = err_from_is_err_and c.from_residual.result c.from_residual.ensures.1 in rw p.1 tt

@@ -1,3 +1,4 @@
+use Rattle.std.proofs.lemmas.Result.{err_from_is_err_and}
 use Rattle.ql_ranges.specs.Ranges.{ids_of}
 use Rattle.slab.specs.Slab.{get}
 use Rattle.ql_replica.proofs.ReceiptLaws.{apply-alone, apply-fits, decided-all, gain-exact, reached-first, reached-further}
@@ -46,3 +47,15 @@ returns-clause-ok c = λ received fits new ascending.
       gain-exact x received after before more gain c.in_ok-gain-2.gain held slots fits behind reached.made
           c.in_ok-gain-2.ensures.lacks c.in_ok-gain-2.ensures.ascending,
     )
+
+pub returns-in_err-gain-2-clause-ok : goal.returns-in_err-gain-2-clause-ok
+returns-in_err-gain-2-clause-ok c = let p = err_from_is_err_and c.from_residual-in_err-gain-2.result c.from_residual-in_err-gain-2.ensures.1 in rw p.1 tt
+
+pub returns-in_err-gain-clause-ok : goal.returns-in_err-gain-clause-ok
+returns-in_err-gain-clause-ok c = let p = err_from_is_err_and c.from_residual-in_err-gain.result c.from_residual-in_err-gain.ensures.1 in rw p.1 tt
+
+pub returns-in_err-more-clause-ok : goal.returns-in_err-more-clause-ok
+returns-in_err-more-clause-ok c = let p = err_from_is_err_and c.from_residual.result c.from_residual.ensures.1 in rw p.1 tt
+
+pub returns-in_err-watches-clause-ok : goal.returns-in_err-watches-clause-ok
+returns-in_err-watches-clause-ok c = let p = err_from_is_err_and c.from_residual-in_err-watches.result c.from_residual-in_err-watches.ensures.1 in rw p.1 tt

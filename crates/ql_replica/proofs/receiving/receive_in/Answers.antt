@@ -1,3 +1,4 @@
+use Rattle.std.proofs.lemmas.Result.{err_from_is_err_and}
 use Rattle.std.proofs.Common.{ℕ, List, Some, refl, subst}
 use Rattle.ql_holder.proofs.Packages.{package-whole}
 use Rattle.ql_ranges.specs.Ranges.{ids_of}
@@ -73,3 +74,15 @@ returns-in_ok-gain-in-None-clause-fits c =
     let after = ids_of c.in_ok-after.after in
     (c.in_ok-gain-in-None.ensures.ok received c.requires.fits
     (new-from c.args.x.now received c.args.pack.now after c.get.result c.requires.package c.requires.fits.whole c.get.ensures c.if-has.ensures c.in_ok-after.ensures.united) c.in_ok-after.ensures.ascending).0
+
+pub returns-in_err-after-clause-arrival : goal.returns-in_err-after-clause-arrival
+returns-in_err-after-clause-arrival c = let p = err_from_is_err_and c.from_residual.result c.from_residual.ensures.1 in rw p.1 tt
+
+pub returns-in_err-found-clause-arrival : goal.returns-in_err-found-clause-arrival
+returns-in_err-found-clause-arrival c = let p = err_from_is_err_and c.from_residual-in_err-found.result c.from_residual-in_err-found.ensures.1 in rw p.1 tt
+
+pub returns-in_err-gain-in-None-clause-arrival : goal.returns-in_err-gain-in-None-clause-arrival
+returns-in_err-gain-in-None-clause-arrival c = let p = err_from_is_err_and c.from_residual-in_err-gain-in-None.result c.from_residual-in_err-gain-in-None.ensures.1 in rw p.1 tt
+
+pub returns-in_err-wait-in-Some-clause-arrival : goal.returns-in_err-wait-in-Some-clause-arrival
+returns-in_err-wait-in-Some-clause-arrival c = let p = err_from_is_err_and c.from_residual-in_err-wait-in-Some.result c.from_residual-in_err-wait-in-Some.ensures.1 in rw p.1 tt

@@ -1,3 +1,4 @@
+use Rattle.std.proofs.lemmas.Result.{err_from_is_err_and}
 use Rattle.std.proofs.Common.{◌&&◌, not, Bool, get_or, take, ap, sym, ◌∙◌, arith}
 use Rattle.ql_base.specs.IdLists.{has_id}
 use Rattle.ql_ranges.specs.Ranges.{ids_of}
@@ -15,3 +16,9 @@ loop-id-preserved c =
           missing-more c.loop-id.rest c.insert_outside.new.rest (ids_of c.args.set.now) (has_id (take k ids) a) (get_or ids k 0) a (c.loop-id.invariant.lacks a) (c.in_ok-insert_outside.ensures.added a)
           ∙ ap (λ (b : Bool). b && not (has_id (ids_of c.args.set.now) a)) (sym (has_id-take ids k a (omega arith)));
     }
+
+pub returns-in_err-insert_outside-clause-ascending : goal.returns-in_err-insert_outside-clause-ascending
+returns-in_err-insert_outside-clause-ascending c = let p = err_from_is_err_and c.from_residual.result c.from_residual.ensures.1 in rw p.1 tt
+
+pub returns-in_err-insert_outside-clause-lacks : goal.returns-in_err-insert_outside-clause-lacks
+returns-in_err-insert_outside-clause-lacks c = let p = err_from_is_err_and c.from_residual.result c.from_residual.ensures.1 in rw p.1 tt

@@ -1,3 +1,4 @@
+use Rattle.std.proofs.lemmas.Result.{err_from_is_err_and}
 use Rattle.std.proofs.Common.{◌∷◌, [], length, length-append, ap, ◌∙◌, arith}
 use Rattle.ql_ranges.specs.Ranges.{ids_of}
 use Rattle.slab.specs.Slab.{get}
@@ -22,3 +23,27 @@ loop-key-preserved c =
           decided-push c.args.x.now (ids_of c.args.after.now) (ids_of c.loop-key.progress.applied) (ids_of c.new_watch.new.progress.applied) (get c.args.waiting.now) c.loop-key.watches.items c.push.new.self.items
           c.loop-key.key c.in_ok-watch.watch c.loop-key.invariant.decided c.in_ok-watch.ensures.advances.grows count c.in_ok-watch.ensures.decided items;
     }
+
+pub returns-in_err-push-clause-advances : goal.returns-in_err-push-clause-advances
+returns-in_err-push-clause-advances c = let p = err_from_is_err_and c.from_residual-in_err-push.result c.from_residual-in_err-push.ensures.1 in rw p.1 tt
+
+pub returns-in_err-push-clause-decided : goal.returns-in_err-push-clause-decided
+returns-in_err-push-clause-decided c = let p = err_from_is_err_and c.from_residual-in_err-push.result c.from_residual-in_err-push.ensures.1 in rw p.1 tt
+
+pub returns-in_err-push-clause-known : goal.returns-in_err-push-clause-known
+returns-in_err-push-clause-known c = let p = err_from_is_err_and c.from_residual-in_err-push.result c.from_residual-in_err-push.ensures.1 in rw p.1 tt
+
+pub returns-in_err-push-clause-slots : goal.returns-in_err-push-clause-slots
+returns-in_err-push-clause-slots c = let p = err_from_is_err_and c.from_residual-in_err-push.result c.from_residual-in_err-push.ensures.1 in rw p.1 tt
+
+pub returns-in_err-watch-clause-advances : goal.returns-in_err-watch-clause-advances
+returns-in_err-watch-clause-advances c = let p = err_from_is_err_and c.from_residual.result c.from_residual.ensures.1 in rw p.1 tt
+
+pub returns-in_err-watch-clause-decided : goal.returns-in_err-watch-clause-decided
+returns-in_err-watch-clause-decided c = let p = err_from_is_err_and c.from_residual.result c.from_residual.ensures.1 in rw p.1 tt
+
+pub returns-in_err-watch-clause-known : goal.returns-in_err-watch-clause-known
+returns-in_err-watch-clause-known c = let p = err_from_is_err_and c.from_residual.result c.from_residual.ensures.1 in rw p.1 tt
+
+pub returns-in_err-watch-clause-slots : goal.returns-in_err-watch-clause-slots
+returns-in_err-watch-clause-slots c = let p = err_from_is_err_and c.from_residual.result c.from_residual.ensures.1 in rw p.1 tt

@@ -1,3 +1,4 @@
+use Rattle.std.proofs.lemmas.Result.{err_from_is_err_and}
 use Rattle.std.proofs.Common.{◌≡◌, ◌+◌, ◌∷◌, [], ◌++◌, List, ℕ, slice_get, nat_lt, false, Some, refl, ap, sym, ◌∙◌, add-one, append_assoc, arith}
 use Rattle.std.specs.Prelude.{length}
 use Rattle.std.proofs.lemmas.List.Elements.{recursion_from_All}
@@ -50,3 +51,21 @@ returns-clause-again c =
     let x = c.args.x.now in
     let none = none_left p objects x c.loop-k.k (omega arith) in
     list_reads_back (effects_left p objects x 0) (c.loop-k.invariant.1 (no_items_read_back (effects_left p objects x c.loop-k.k) none))
+
+pub returns-in_err-push-2-clause-again : goal.returns-in_err-push-2-clause-again
+returns-in_err-push-2-clause-again c = let p = err_from_is_err_and c.from_residual-in_err-push-2.result c.from_residual-in_err-push-2.ensures.1 in rw p.1 tt
+
+pub returns-in_err-push-2-clause-text : goal.returns-in_err-push-2-clause-text
+returns-in_err-push-2-clause-text c = let p = err_from_is_err_and c.from_residual-in_err-push-2.result c.from_residual-in_err-push-2.ensures.1 in rw p.1 tt
+
+pub returns-in_err-push-clause-again : goal.returns-in_err-push-clause-again
+returns-in_err-push-clause-again c = let p = err_from_is_err_and c.from_residual.result c.from_residual.ensures.1 in rw p.1 tt
+
+pub returns-in_err-push-clause-text : goal.returns-in_err-push-clause-text
+returns-in_err-push-clause-text c = let p = err_from_is_err_and c.from_residual.result c.from_residual.ensures.1 in rw p.1 tt
+
+pub returns-in_err-push_effect-clause-again : goal.returns-in_err-push_effect-clause-again
+returns-in_err-push_effect-clause-again c = let p = err_from_is_err_and c.from_residual-in_err-push_effect.result c.from_residual-in_err-push_effect.ensures.1 in rw p.1 tt
+
+pub returns-in_err-push_effect-clause-text : goal.returns-in_err-push_effect-clause-text
+returns-in_err-push_effect-clause-text c = let p = err_from_is_err_and c.from_residual-in_err-push_effect.result c.from_residual-in_err-push_effect.ensures.1 in rw p.1 tt

@@ -1,3 +1,4 @@
+use Rattle.std.proofs.lemmas.Result.{err_from_is_err_and}
 use Rattle.std.proofs.Common.{◌∷◌, [], ◌++◌, List, Some, map, ap, ◌∙◌}
 use Rattle.ql_lines.specs.Texts.{joined}
 use Rattle.ql_machine.specs.declared.reply.Reply.{Reply}
@@ -36,3 +37,45 @@ returns-clause-again c =
     let text = run_line (listed (effects_from p objects 1 x)) (listed (levels_data p levels)) (said rs) _ _ _ _ _ _ _ _ c.new-text.ensures.items c.in_ok-push_bytes.ensures.ok c.in_ok-push_effects.ensures.text c.in_ok-push_bytes-2.ensures.ok
     c.in_ok-push_levels.ensures.text c.in_ok-push_bytes-3.ensures.ok c.in_ok-push_replies.ensures.text c.in_ok-push_bytes-4.ensures.ok in
     ap read text ∙ reads_line (compact_text (run rs)) (run rs) (text_compact (run rs) back) (text_read (run rs) back (run_nests p objects levels rs x)) ∙ ap (λ d. Some (run d)) c.as_slice.ensures.value
+
+pub returns-in_err-push_bytes-2-clause-again : goal.returns-in_err-push_bytes-2-clause-again
+returns-in_err-push_bytes-2-clause-again c = let p = err_from_is_err_and c.from_residual-in_err-push_bytes-2.result c.from_residual-in_err-push_bytes-2.ensures.1 in rw p.1 tt
+
+pub returns-in_err-push_bytes-2-clause-text : goal.returns-in_err-push_bytes-2-clause-text
+returns-in_err-push_bytes-2-clause-text c = let p = err_from_is_err_and c.from_residual-in_err-push_bytes-2.result c.from_residual-in_err-push_bytes-2.ensures.1 in rw p.1 tt
+
+pub returns-in_err-push_bytes-3-clause-again : goal.returns-in_err-push_bytes-3-clause-again
+returns-in_err-push_bytes-3-clause-again c = let p = err_from_is_err_and c.from_residual-in_err-push_bytes-3.result c.from_residual-in_err-push_bytes-3.ensures.1 in rw p.1 tt
+
+pub returns-in_err-push_bytes-3-clause-text : goal.returns-in_err-push_bytes-3-clause-text
+returns-in_err-push_bytes-3-clause-text c = let p = err_from_is_err_and c.from_residual-in_err-push_bytes-3.result c.from_residual-in_err-push_bytes-3.ensures.1 in rw p.1 tt
+
+pub returns-in_err-push_bytes-4-clause-again : goal.returns-in_err-push_bytes-4-clause-again
+returns-in_err-push_bytes-4-clause-again c = let p = err_from_is_err_and c.from_residual-in_err-push_bytes-4.result c.from_residual-in_err-push_bytes-4.ensures.1 in rw p.1 tt
+
+pub returns-in_err-push_bytes-4-clause-text : goal.returns-in_err-push_bytes-4-clause-text
+returns-in_err-push_bytes-4-clause-text c = let p = err_from_is_err_and c.from_residual-in_err-push_bytes-4.result c.from_residual-in_err-push_bytes-4.ensures.1 in rw p.1 tt
+
+pub returns-in_err-push_bytes-clause-again : goal.returns-in_err-push_bytes-clause-again
+returns-in_err-push_bytes-clause-again c = let p = err_from_is_err_and c.from_residual.result c.from_residual.ensures.1 in rw p.1 tt
+
+pub returns-in_err-push_bytes-clause-text : goal.returns-in_err-push_bytes-clause-text
+returns-in_err-push_bytes-clause-text c = let p = err_from_is_err_and c.from_residual.result c.from_residual.ensures.1 in rw p.1 tt
+
+pub returns-in_err-push_effects-clause-again : goal.returns-in_err-push_effects-clause-again
+returns-in_err-push_effects-clause-again c = let p = err_from_is_err_and c.from_residual-in_err-push_effects.result c.from_residual-in_err-push_effects.ensures.1 in rw p.1 tt
+
+pub returns-in_err-push_effects-clause-text : goal.returns-in_err-push_effects-clause-text
+returns-in_err-push_effects-clause-text c = let p = err_from_is_err_and c.from_residual-in_err-push_effects.result c.from_residual-in_err-push_effects.ensures.1 in rw p.1 tt
+
+pub returns-in_err-push_levels-clause-again : goal.returns-in_err-push_levels-clause-again
+returns-in_err-push_levels-clause-again c = let p = err_from_is_err_and c.from_residual-in_err-push_levels.result c.from_residual-in_err-push_levels.ensures.1 in rw p.1 tt
+
+pub returns-in_err-push_levels-clause-text : goal.returns-in_err-push_levels-clause-text
+returns-in_err-push_levels-clause-text c = let p = err_from_is_err_and c.from_residual-in_err-push_levels.result c.from_residual-in_err-push_levels.ensures.1 in rw p.1 tt
+
+pub returns-in_err-push_replies-clause-again : goal.returns-in_err-push_replies-clause-again
+returns-in_err-push_replies-clause-again c = let p = err_from_is_err_and c.from_residual-in_err-push_replies.result c.from_residual-in_err-push_replies.ensures.1 in rw p.1 tt
+
+pub returns-in_err-push_replies-clause-text : goal.returns-in_err-push_replies-clause-text
+returns-in_err-push_replies-clause-text c = let p = err_from_is_err_and c.from_residual-in_err-push_replies.result c.from_residual-in_err-push_replies.ensures.1 in rw p.1 tt

@@ -1,3 +1,4 @@
+use Rattle.std.proofs.lemmas.Result.{err_from_is_err_and}
 use Rattle.std.proofs.Common.{◌≡◌, ◌+◌, ◌++◌, ◌∷◌, [], slice_get, Some, length, take, ap, sym, subst, arith, ◌∙◌, add-one}
 use Rattle.std.proofs.lemmas.List.{take_all}
 use Rattle.std.proofs.lemmas.Option.{get_or_from_slice_get, slice_get_within}
@@ -40,3 +41,9 @@ returns-clause-text c =
 
 pub returns-clause-values : goal.returns-clause-values
 returns-clause-values c = subst HaveValues (take_all c.loop-k.k c.args.x.now (omega arith)) c.loop-k.invariant.values
+
+pub returns-in_err-push_effect-clause-text : goal.returns-in_err-push_effect-clause-text
+returns-in_err-push_effect-clause-text c = let p = err_from_is_err_and c.from_residual.result c.from_residual.ensures.1 in rw p.1 tt
+
+pub returns-in_err-push_effect-clause-values : goal.returns-in_err-push_effect-clause-values
+returns-in_err-push_effect-clause-values c = let p = err_from_is_err_and c.from_residual.result c.from_residual.ensures.1 in rw p.1 tt

@@ -1,3 +1,4 @@
+use Rattle.std.proofs.lemmas.Result.{err_from_is_err_and}
 use Rattle.std.proofs.Common.{◌≡◌, ◌+◌, ◌++◌, ◌∷◌, [], slice_get, Some, ap, ◌∙◌, length, refl, arith}
 use Rattle.std.proofs.lemmas.List.{take_all}
 use Rattle.std.proofs.lemmas.Option.{slice_get_read}
@@ -20,3 +21,6 @@ loop-k-preserved c =
 
 pub returns : goal.returns
 returns c = c.loop-k.invariant ∙ ap (λ rs. c.args.out.now.items ++ file_text (lines_from (numbered_reply_fields c.args.x.now) 1 rs)) (take_all c.loop-k.k c.args.replies.now (omega arith))
+
+pub returns-in_err-push_event : goal.returns-in_err-push_event
+returns-in_err-push_event c = let p = err_from_is_err_and c.from_residual.result c.from_residual.ensures.1 in rw p.1 tt

@@ -1,3 +1,4 @@
+use Rattle.std.proofs.lemmas.Result.{err_from_is_err_and}
 use Rattle.std.proofs.Common.{◌≡◌, ◌∷◌, [], List, length, sym, subst, ap, ◌∙◌, arith}
 use Rattle.std.proofs.lemmas.List.{nil_from_length}
 use Rattle.std.specs.Vec.Iter.{into_iter_items, into_iter_len}
@@ -92,3 +93,39 @@ returns-clause-replicas g c =
     let none = nil_from_length (into_iter_items c.loop-event.event-iterator) (sym c.loop-event.invariant.3 ∙ c.in-None.ensures.steps.0) in
     going-count p c.args.store.now.levels c.args.schedule c.requires.levels c.requires.schedule c.loop-event.replies.items store.levels store.machine
     (subst (λ (left : List Event). IsGoing p c.args.store.now.levels c.args.schedule left c.loop-event.replies.items store.levels store.machine) none c.loop-event.invariant.2)
+
+pub returns-in_err-push-clause-answered : goal.returns-in_err-push-clause-answered
+returns-in_err-push-clause-answered g c = let p = err_from_is_err_and c.from_residual-in_err-push.result c.from_residual-in_err-push.ensures.1 in rw p.1 tt
+
+pub returns-in_err-push-clause-fits : goal.returns-in_err-push-clause-fits
+returns-in_err-push-clause-fits g c = let p = err_from_is_err_and c.from_residual-in_err-push.result c.from_residual-in_err-push.ensures.1 in rw p.1 tt
+
+pub returns-in_err-push-clause-levels : goal.returns-in_err-push-clause-levels
+returns-in_err-push-clause-levels g c = let p = err_from_is_err_and c.from_residual-in_err-push.result c.from_residual-in_err-push.ensures.1 in rw p.1 tt
+
+pub returns-in_err-push-clause-objects : goal.returns-in_err-push-clause-objects
+returns-in_err-push-clause-objects g c = let p = err_from_is_err_and c.from_residual-in_err-push.result c.from_residual-in_err-push.ensures.1 in rw p.1 tt
+
+pub returns-in_err-push-clause-replicas : goal.returns-in_err-push-clause-replicas
+returns-in_err-push-clause-replicas g c = let p = err_from_is_err_and c.from_residual-in_err-push.result c.from_residual-in_err-push.ensures.1 in rw p.1 tt
+
+pub returns-in_err-push-clause-run : goal.returns-in_err-push-clause-run
+returns-in_err-push-clause-run g c = let p = err_from_is_err_and c.from_residual-in_err-push.result c.from_residual-in_err-push.ensures.1 in rw p.1 tt
+
+pub returns-in_err-reply-clause-answered : goal.returns-in_err-reply-clause-answered
+returns-in_err-reply-clause-answered g c = let p = err_from_is_err_and c.from_residual.result c.from_residual.ensures.1 in rw p.1 tt
+
+pub returns-in_err-reply-clause-fits : goal.returns-in_err-reply-clause-fits
+returns-in_err-reply-clause-fits g c = let p = err_from_is_err_and c.from_residual.result c.from_residual.ensures.1 in rw p.1 tt
+
+pub returns-in_err-reply-clause-levels : goal.returns-in_err-reply-clause-levels
+returns-in_err-reply-clause-levels g c = let p = err_from_is_err_and c.from_residual.result c.from_residual.ensures.1 in rw p.1 tt
+
+pub returns-in_err-reply-clause-objects : goal.returns-in_err-reply-clause-objects
+returns-in_err-reply-clause-objects g c = let p = err_from_is_err_and c.from_residual.result c.from_residual.ensures.1 in rw p.1 tt
+
+pub returns-in_err-reply-clause-replicas : goal.returns-in_err-reply-clause-replicas
+returns-in_err-reply-clause-replicas g c = let p = err_from_is_err_and c.from_residual.result c.from_residual.ensures.1 in rw p.1 tt
+
+pub returns-in_err-reply-clause-run : goal.returns-in_err-reply-clause-run
+returns-in_err-reply-clause-run g c = let p = err_from_is_err_and c.from_residual.result c.from_residual.ensures.1 in rw p.1 tt

@@ -1,3 +1,4 @@
+use Rattle.std.proofs.lemmas.Result.{err_from_is_err_and}
 use Rattle.std.proofs.Common.{◌≡◌, ℕ, length, sym, subst, arith}
 use Rattle.ql_sat.specs.State.{AreWatched, all_clauses}
 use Rattle.ql_sat.proofs.Watching.{watched_quiet}
@@ -22,3 +23,9 @@ returns c =
       conflict = tt;
       number = c.loop-place.invariant.number;
     }
+
+pub returns-in_err-conflict : goal.returns-in_err-conflict
+returns-in_err-conflict c = let p = err_from_is_err_and c.from_residual.result c.from_residual.ensures.1 in rw p.1 tt
+
+pub returns-in_err-conflict-2 : goal.returns-in_err-conflict-2
+returns-in_err-conflict-2 c = let p = err_from_is_err_and c.from_residual-in_err-conflict-2.result c.from_residual-in_err-conflict-2.ensures.1 in rw p.1 tt

@@ -1,3 +1,4 @@
+use Rattle.std.proofs.lemmas.Result.{err_from_is_err_and}
 use Rattle.std.proofs.Common.{◌≡◌, ◌<◌, ◌+◌, ◌*◌, ◌^◌, length, sym, ◌∙◌, ap, subst, arith}
 use Rattle.std.proofs.lemmas.List.{get_or_default}
 use Rattle.ql_cnf.specs.Literals.{negated}
@@ -39,3 +40,6 @@ returns c =
       conflict = tt;
       number = c.loop-clause.invariant.number;
     }
+
+pub returns-in_err-next : goal.returns-in_err-next
+returns-in_err-next c = let p = err_from_is_err_and c.from_residual.result c.from_residual.ensures.1 in rw p.1 tt

@@ -1,3 +1,4 @@
+use Rattle.std.proofs.lemmas.Result.{err_from_is_err_and}
 use Rattle.ql_sat.specs.Search.{IsTotal}
 use Rattle.ql_sat.specs.Settled.{with_lines}
 use Rattle.ql_sat.proofs.Watching.{watched_decided, watched_model}
@@ -26,3 +27,6 @@ returns-in-None c =
       turn = λ a agrees. watched_model c.args.c.now c.args.search.now.lines.items c.args.search.now.trail.steps.items c.args.search.now.trail.marks.items c.args.search.now.guide.watches.lists.items c.args.search.now.guide.watches.pairs.items c.args.search.now.guide.queue.done a c.requires.ready.sound.values c.requires.ready.watched c.requires.all c.in-None.ensures.none c.in-None.ensures.in_range total agrees;
       number = λ e. absurd (cc);
     }
+
+pub returns-in_err-decide_on : goal.returns-in_err-decide_on
+returns-in_err-decide_on c = let p = err_from_is_err_and c.from_residual.result c.from_residual.ensures.1 in rw p.1 tt

@@ -1,3 +1,4 @@
+use Rattle.std.proofs.lemmas.Result.{err_from_is_err_and}
 use Rattle.std.proofs.Common.{◌≡◌, length, arith}
 use Rattle.ql_sat.specs.Settled.{with_lines, IsWatched}
 use Rattle.ql_sat.proofs.Watching.{watched_decided}
@@ -20,3 +21,9 @@ returns-in-Some-next c =
       turn = tt;
       number = λ e. omega (arith, c.in_ok-conflict.ensures.number, greater);
     }
+
+pub returns-in_err-conflict : goal.returns-in_err-conflict
+returns-in_err-conflict c = let p = err_from_is_err_and c.from_residual.result c.from_residual.ensures.1 in rw p.1 tt
+
+pub returns-in_err-decide_on : goal.returns-in_err-decide_on
+returns-in_err-decide_on c = let p = err_from_is_err_and c.from_residual-in_err-decide_on.result c.from_residual-in_err-decide_on.ensures.1 in rw p.1 tt

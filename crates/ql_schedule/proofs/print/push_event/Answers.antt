@@ -1,3 +1,4 @@
+use Rattle.std.proofs.lemmas.Result.{err_from_is_err_and}
 use Rattle.std.proofs.Common.{◌++◌, ◌∷◌, List, ℕ, codes, map, decimal, ap, sym, ◌∙◌}
 use Rattle.ql_lines.specs.Fields.{Fields}
 use Rattle.ql_lines.specs.Texts.{spaced_fields, joined}
@@ -43,3 +44,12 @@ returns-in_ok-push_bytes-in-Partition c =
     let whole = ap (λ r. r ++ spaced_fields vs) c.in_ok-push_bytes-in-Partition.ensures.ok ∙ partition_pieces out (codes "partition") vs in
     let event = ap (λ (e : Event). out ++ joined (event_fields p objects e)) (sym c.in-Partition.is) in
     on_ok c.push_numbers.result (λ e. e ∙ ap (λ (xs : List ℕ). c.push_bytes.new.out.items ++ spaced_fields (map decimal xs)) c.items-in-Partition.ensures ∙ whole ∙ event) c.push_numbers.ensures
+
+pub returns-in_err-push_bytes-in-Partition : goal.returns-in_err-push_bytes-in-Partition
+returns-in_err-push_bytes-in-Partition c = let p = err_from_is_err_and c.from_residual-in_err-push_bytes-in-Partition.result c.from_residual-in_err-push_bytes-in-Partition.ensures.1 in rw p.1 tt
+
+pub returns-in_err-push_caller-in-Begin : goal.returns-in_err-push_caller-in-Begin
+returns-in_err-push_caller-in-Begin c = let p = err_from_is_err_and c.from_residual-in_err-push_caller-in-Begin.result c.from_residual-in_err-push_caller-in-Begin.ensures.1 in rw p.1 tt
+
+pub returns-in_err-push_caller-in-Call : goal.returns-in_err-push_caller-in-Call
+returns-in_err-push_caller-in-Call c = let p = err_from_is_err_and c.from_residual.result c.from_residual.ensures.1 in rw p.1 tt

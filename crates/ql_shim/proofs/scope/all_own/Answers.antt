@@ -1,3 +1,4 @@
+use Rattle.std.proofs.lemmas.Result.{err_from_is_err_and}
 use Rattle.std.proofs.Common.{length, get_or, ◌∙◌, sym, ap, add-one, arith}
 use Rattle.ql_shim.proofs.CompleteLaws.{complete-kept, complete-passed}
 use Rattle.ql_holder.proofs.Members.{index-has}
@@ -34,3 +35,6 @@ loop-a-preserved c =
           rw (w.ids-is, add-one) (complete-passed x own saw others s on k c.loop-a.ids w.index-effects-a.result c.loop-a-test.true (sym c.is_kept.ensures ∙ w.if-is_kept.false) at
           (sym w.is_awaited.ensures ∙ w.if-is_awaited.false) c.loop-a.invariant))
     ]
+
+pub returns-in_err-insert-clause-complete : goal.returns-in_err-insert-clause-complete
+returns-in_err-insert-clause-complete c = let p = err_from_is_err_and c.from_residual.result c.from_residual.ensures.1 in rw p.1 tt

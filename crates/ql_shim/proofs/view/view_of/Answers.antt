@@ -1,3 +1,4 @@
+use Rattle.std.proofs.lemmas.Result.{err_from_is_err_and}
 use Rattle.std.proofs.Common.{subst, ℕ, List}
 use Rattle.ql_holder.specs.Closed.{Has}
 use Rattle.ql_holder.specs.Arrivals.{Applied}
@@ -47,3 +48,39 @@ returns-in_ok-with_own-in-Rr-clause-ids g c = rw c.in-Rr.is (λ now o asked.
     (λ has. closed.0 (kept.0 has), λ all. kept.1 (closed.1 all)))
     (c.in_ok-with_own-in-Rr.ensures.joined o asked.on_object (λ a has. asked.known.session a (asked.known.own.only a has))
     (λ a b is_own seen. asked.known.saw.all a (b, asked.known.own.only b is_own, seen))))
+
+pub returns-in_err-others-in-Mav-clause-ids : goal.returns-in_err-others-in-Mav-clause-ids
+returns-in_err-others-in-Mav-clause-ids g c = let p = err_from_is_err_and c.from_residual-in_err-others-in-Mav.result c.from_residual-in_err-others-in-Mav.ensures.1 in rw p.1 tt
+
+pub returns-in_err-others-in-Mav-clause-missing : goal.returns-in_err-others-in-Mav-clause-missing
+returns-in_err-others-in-Mav-clause-missing g c = let p = err_from_is_err_and c.from_residual-in_err-others-in-Mav.result c.from_residual-in_err-others-in-Mav.ensures.1 in rw p.1 tt
+
+pub returns-in_err-others-in-Rc-clause-ids : goal.returns-in_err-others-in-Rc-clause-ids
+returns-in_err-others-in-Rc-clause-ids g c = let p = err_from_is_err_and c.from_residual.result c.from_residual.ensures.1 in rw p.1 tt
+
+pub returns-in_err-others-in-Rc-clause-missing : goal.returns-in_err-others-in-Rc-clause-missing
+returns-in_err-others-in-Rc-clause-missing g c = let p = err_from_is_err_and c.from_residual.result c.from_residual.ensures.1 in rw p.1 tt
+
+pub returns-in_err-others-in-Rr-clause-ids : goal.returns-in_err-others-in-Rr-clause-ids
+returns-in_err-others-in-Rr-clause-ids g c = let p = err_from_is_err_and c.from_residual-in_err-others-in-Rr.result c.from_residual-in_err-others-in-Rr.ensures.1 in rw p.1 tt
+
+pub returns-in_err-others-in-Rr-clause-missing : goal.returns-in_err-others-in-Rr-clause-missing
+returns-in_err-others-in-Rr-clause-missing g c = let p = err_from_is_err_and c.from_residual-in_err-others-in-Rr.result c.from_residual-in_err-others-in-Rr.ensures.1 in rw p.1 tt
+
+pub returns-in_err-with_own-in-Mav-clause-ids : goal.returns-in_err-with_own-in-Mav-clause-ids
+returns-in_err-with_own-in-Mav-clause-ids g c = let p = err_from_is_err_and c.from_residual-in_err-with_own-in-Mav.result c.from_residual-in_err-with_own-in-Mav.ensures.1 in rw p.1 tt
+
+pub returns-in_err-with_own-in-Mav-clause-missing : goal.returns-in_err-with_own-in-Mav-clause-missing
+returns-in_err-with_own-in-Mav-clause-missing g c = let p = err_from_is_err_and c.from_residual-in_err-with_own-in-Mav.result c.from_residual-in_err-with_own-in-Mav.ensures.1 in rw p.1 tt
+
+pub returns-in_err-with_own-in-Rc-clause-ids : goal.returns-in_err-with_own-in-Rc-clause-ids
+returns-in_err-with_own-in-Rc-clause-ids g c = let p = err_from_is_err_and c.from_residual-in_err-with_own-in-Rc.result c.from_residual-in_err-with_own-in-Rc.ensures.1 in rw p.1 tt
+
+pub returns-in_err-with_own-in-Rc-clause-missing : goal.returns-in_err-with_own-in-Rc-clause-missing
+returns-in_err-with_own-in-Rc-clause-missing g c = let p = err_from_is_err_and c.from_residual-in_err-with_own-in-Rc.result c.from_residual-in_err-with_own-in-Rc.ensures.1 in rw p.1 tt
+
+pub returns-in_err-with_own-in-Rr-clause-ids : goal.returns-in_err-with_own-in-Rr-clause-ids
+returns-in_err-with_own-in-Rr-clause-ids g c = let p = err_from_is_err_and c.from_residual-in_err-with_own-in-Rr.result c.from_residual-in_err-with_own-in-Rr.ensures.1 in rw p.1 tt
+
+pub returns-in_err-with_own-in-Rr-clause-missing : goal.returns-in_err-with_own-in-Rr-clause-missing
+returns-in_err-with_own-in-Rr-clause-missing g c = let p = err_from_is_err_and c.from_residual-in_err-with_own-in-Rr.result c.from_residual-in_err-with_own-in-Rr.ensures.1 in rw p.1 tt

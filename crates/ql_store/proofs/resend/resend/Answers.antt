@@ -1,3 +1,4 @@
+use Rattle.std.proofs.lemmas.Result.{err_from_is_err_and}
 use Rattle.std.proofs.Common.{ℕ, List, map, sym, ap, ◌∙◌}
 use Rattle.ql_base.specs.IdLists.{has_id}
 use Rattle.ql_machine.specs.Steps.{absent}
@@ -17,3 +18,9 @@ returns-clause-step g c = λ rules shim.
     (ap (λ (ids : List ℕ). has_id ids c.args.effect.0) (held-at g.H.Holder.received c.args.holders.now.items c.args.from.0 c.index-holder.result.now c.requires.replica c.index-holder.ensures)
     ∙ sym c.has.ensures ∙ c.if-not-has.false)
     c.in_ok-pack.ensures c.in_ok-m.ensures.sent c.in_ok-m.ensures.number
+
+pub returns-in_err-m-clause-step : goal.returns-in_err-m-clause-step
+returns-in_err-m-clause-step g c = let p = err_from_is_err_and c.from_residual-in_err-m.result c.from_residual-in_err-m.ensures.1 in rw p.1 tt
+
+pub returns-in_err-pack-clause-step : goal.returns-in_err-pack-clause-step
+returns-in_err-pack-clause-step g c = let p = err_from_is_err_and c.from_residual.result c.from_residual.ensures.1 in rw p.1 tt

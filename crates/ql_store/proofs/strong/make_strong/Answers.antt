@@ -1,3 +1,4 @@
+use Rattle.std.proofs.lemmas.Result.{err_from_is_err_and}
 use Rattle.std.proofs.Common.{◌≡◌, ◌<◌, true, ◌∷◌, [], ℕ, List, length, slice_index_or, subst, sym}
 use Rattle.ql_exec.specs.declared.effect.Effect.{Effect}
 use Rattle.ql_exec.specs.Execution.{effect_of}
@@ -53,3 +54,21 @@ synced-requires-clause-within g c =
 pub synced-requires-clause-whole : goal.synced-requires-clause-whole
 synced-requires-clause-whole g c =
     subst (λ (y : List Effect). AreWhole y c.in_ok-done.done) (sym c.in_ok-id.ensures.made) (c.requires.whole c.in_ok-done.done (committed_ids g c))
+
+pub returns-in_err-done-clause-made : goal.returns-in_err-done-clause-made
+returns-in_err-done-clause-made g c = let p = err_from_is_err_and c.from_residual.result c.from_residual.ensures.1 in rw p.1 tt
+
+pub returns-in_err-done-clause-received : goal.returns-in_err-done-clause-received
+returns-in_err-done-clause-received g c = let p = err_from_is_err_and c.from_residual.result c.from_residual.ensures.1 in rw p.1 tt
+
+pub returns-in_err-done-clause-reply : goal.returns-in_err-done-clause-reply
+returns-in_err-done-clause-reply g c = let p = err_from_is_err_and c.from_residual.result c.from_residual.ensures.1 in rw p.1 tt
+
+pub returns-in_err-id-clause-made : goal.returns-in_err-id-clause-made
+returns-in_err-id-clause-made g c = let p = err_from_is_err_and c.from_residual-in_err-id.result c.from_residual-in_err-id.ensures.1 in rw p.1 tt
+
+pub returns-in_err-id-clause-received : goal.returns-in_err-id-clause-received
+returns-in_err-id-clause-received g c = let p = err_from_is_err_and c.from_residual-in_err-id.result c.from_residual-in_err-id.ensures.1 in rw p.1 tt
+
+pub returns-in_err-id-clause-reply : goal.returns-in_err-id-clause-reply
+returns-in_err-id-clause-reply g c = let p = err_from_is_err_and c.from_residual-in_err-id.result c.from_residual-in_err-id.ensures.1 in rw p.1 tt

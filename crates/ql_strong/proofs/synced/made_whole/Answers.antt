@@ -1,3 +1,4 @@
+use Rattle.std.proofs.lemmas.Result.{err_from_is_err_and}
 use Rattle.std.proofs.Common.{◌≡◌, ◌+◌, ◌<◌, ◌≤◌, ℕ, List, true, sym, length, get_or, drop, subst, arith}
 use Rattle.std.proofs.lemmas.List.{take_rest, length-drop}
 use Rattle.ql_base.specs.IdLists.{IsAscending, has_id}
@@ -57,3 +58,15 @@ returns-clause-received g c =
     let inside = c.loop-count.invariant.inside in
     let end : c.loop-count.count ≡ length c.args.committed.now = omega (arith, inside, c.loop-count-test.false) in
     way-ends received c.args.committed.now c.requires.ascending (subst (λ (k : ℕ). IsUnderWay received c.args.committed.now k) end c.loop-count.invariant.way)
+
+pub returns-in_err-receive_with-clause-fits : goal.returns-in_err-receive_with-clause-fits
+returns-in_err-receive_with-clause-fits g c = let p = err_from_is_err_and c.from_residual-in_err-receive_with.result c.from_residual-in_err-receive_with.ensures.1 in rw p.1 tt
+
+pub returns-in_err-receive_with-clause-received : goal.returns-in_err-receive_with-clause-received
+returns-in_err-receive_with-clause-received g c = let p = err_from_is_err_and c.from_residual-in_err-receive_with.result c.from_residual-in_err-receive_with.ensures.1 in rw p.1 tt
+
+pub returns-in_err-whole-clause-fits : goal.returns-in_err-whole-clause-fits
+returns-in_err-whole-clause-fits g c = let p = err_from_is_err_and c.from_residual.result c.from_residual.ensures.1 in rw p.1 tt
+
+pub returns-in_err-whole-clause-received : goal.returns-in_err-whole-clause-received
+returns-in_err-whole-clause-received g c = let p = err_from_is_err_and c.from_residual.result c.from_residual.ensures.1 in rw p.1 tt

@@ -1,3 +1,4 @@
+use Rattle.std.proofs.lemmas.Result.{err_from_is_err_and}
 use Rattle.std.proofs.Common.{sym, arith}
 use Rattle.ql_value.specs.Order.{key_cmp}
 use Rattle.ql_value.proofs.Ascending.{overwrites, inserts, no_room}
@@ -22,3 +23,9 @@ pub returns-else-len-lt-MAX_ENTRIES-clause-gives : goal.returns-else-len-lt-MAX_
 returns-else-len-lt-MAX_ENTRIES-clause-gives c =
     let p = rw c.deref.ensures.value at c.in-Err.ensures in
     sym (no_room key_cmp keys_total c.args.entry c.args.entries.now.items p.1 (omega (arith, c.args.entries.now.ok.0)))
+
+pub returns-in_err-insert-in-Err-clause-gives : goal.returns-in_err-insert-in-Err-clause-gives
+returns-in_err-insert-in-Err-clause-gives c = let p = err_from_is_err_and c.from_residual.result c.from_residual.ensures.1 in rw p.1 tt
+
+pub returns-in_err-insert-in-Err-clause-map : goal.returns-in_err-insert-in-Err-clause-map
+returns-in_err-insert-in-Err-clause-map c = let p = err_from_is_err_and c.from_residual.result c.from_residual.ensures.1 in rw p.1 tt

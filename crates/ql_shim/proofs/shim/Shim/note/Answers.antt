@@ -1,3 +1,4 @@
+use Rattle.std.proofs.lemmas.Result.{err_from_is_err_and}
 use Rattle.std.proofs.Common.{◌≡◌, List, Some, refl, sym, subst, arith}
 use Rattle.ql_machine.specs.State.{open_of}
 use Rattle.ql_shim.specs.declared.running.Running.{Running}
@@ -32,3 +33,9 @@ returns-clause-noted c =
     rw (← c.self.view_is)
     (noted-is items c.self.inside.begun c.args.s c.place-at.result c.args.e.0 c.args.seen.now c.requires.0 c.index_mut-running.result.now
     (record { txn = c.index_mut-running.result.now.txn; own = c.insert.new.self; saw = c.in_ok-saw.saw }) place here refl c.in_ok-insert.ensures.added c.in_ok-saw.ensures)
+
+pub returns-in_err-insert-clause-noted : goal.returns-in_err-insert-clause-noted
+returns-in_err-insert-clause-noted c = let p = err_from_is_err_and c.from_residual-in_err-insert.result c.from_residual-in_err-insert.ensures.1 in rw p.1 tt
+
+pub returns-in_err-saw-clause-noted : goal.returns-in_err-saw-clause-noted
+returns-in_err-saw-clause-noted c = let p = err_from_is_err_and c.from_residual.result c.from_residual.ensures.1 in rw p.1 tt

@@ -1,3 +1,4 @@
+use Rattle.std.proofs.lemmas.Result.{err_from_is_err_and}
 use Rattle.std.proofs.Common.{◌≡◌, ◌<◌, Bool, List, Some, None, length, map, refl, sym, subst, ap, ◌∙◌, arith}
 use Rattle.std.proofs.lemmas.List.{length-map}
 use Rattle.std.proofs.lemmas.Option.{get_or_from_slice_get}
@@ -184,3 +185,9 @@ returns g c = λ rules promises uses answer.
     (c.in_ok-answered.ensures ∙ ap (λ (f : OpId → List Value → List Effect → Answered). f c.args.asked.op c.args.asked.args (seen_in_order x c.in_ok-view.view.ids)) (sym answer)) in
     subst (λ (v : StoreState). IsAttempt rules v.machine call (Makes (draft (Inside t.run t.decl)))) c.self.view_is
     (c.in_ok-view.view.ids, attempt-makes rules s call c.in_ok-view.view.ids may nothing replica, drafted)
+
+pub returns-in_err-answered : goal.returns-in_err-answered
+returns-in_err-answered g c = let p = err_from_is_err_and c.from_residual-in_err-answered.result c.from_residual-in_err-answered.ensures.1 in rw p.1 tt
+
+pub returns-in_err-view : goal.returns-in_err-view
+returns-in_err-view g c = let p = err_from_is_err_and c.from_residual.result c.from_residual.ensures.1 in rw p.1 tt

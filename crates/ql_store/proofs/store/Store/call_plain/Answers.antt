@@ -1,3 +1,4 @@
+use Rattle.std.proofs.lemmas.Result.{err_from_is_err_and}
 use Rattle.std.proofs.Common.{◌≡◌, ◌≢◌, ◌<◌, ◌+◌, ◌^◌, ◌∷◌, ◌++◌, [], ℕ, true, List, Some, None, length, map, refl, sym, subst, ap, ◌∙◌, arith}
 use Rattle.std.proofs.lemmas.List.{length-map}
 use Rattle.std.proofs.lemmas.Option.{get_or_from_slice_get}
@@ -362,3 +363,9 @@ make_plain-requires-clause-noted g c = c.self.invariant.0.noted
 
 pub make_plain-requires-clause-alone : goal.make_plain-requires-clause-alone
 make_plain-requires-clause-alone g c = refl
+
+pub returns-in_err-answered-clause-step : goal.returns-in_err-answered-clause-step
+returns-in_err-answered-clause-step g c = let p = err_from_is_err_and c.from_residual-in_err-answered.result c.from_residual-in_err-answered.ensures.1 in rw p.1 tt
+
+pub returns-in_err-view-clause-step : goal.returns-in_err-view-clause-step
+returns-in_err-view-clause-step g c = let p = err_from_is_err_and c.from_residual.result c.from_residual.ensures.1 in rw p.1 tt

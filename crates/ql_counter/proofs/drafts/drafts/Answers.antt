@@ -1,0 +1,11 @@
+use Rattle.std.proofs.lemmas.Result.{err_from_is_err_and}
+use Rattle.ql_counter.proofs.drafts.drafts.Goals as goal
+
+pub returns-in_err-draft : goal.returns-in_err-draft
+returns-in_err-draft c = let p = err_from_is_err_and c.from_residual-in_err-draft.result c.from_residual-in_err-draft.ensures.1 in rw p.1 tt
+
+pub returns-in_err-drafts : goal.returns-in_err-drafts
+returns-in_err-drafts c = let p = err_from_is_err_and c.from_residual.result c.from_residual.ensures.1 in rw p.1 tt
+
+pub returns-in_err-push : goal.returns-in_err-push
+returns-in_err-push c = let p = err_from_is_err_and c.from_residual-in_err-push.result c.from_residual-in_err-push.ensures.1 in rw p.1 tt

@@ -1,0 +1,8 @@
+use Rattle.std.proofs.lemmas.Result.{err_from_is_err_and}
+use Rattle.ql_ranges.proofs.ranges.Ranges.copy_with_room.Goals as goal
+
+pub returns-in_err-extend_from_slice-clause-same : goal.returns-in_err-extend_from_slice-clause-same
+returns-in_err-extend_from_slice-clause-same c = let p = err_from_is_err_and c.from_residual-in_err-extend_from_slice.result c.from_residual-in_err-extend_from_slice.ensures.1 in rw p.1 tt
+
+pub returns-in_err-ranges-clause-same : goal.returns-in_err-ranges-clause-same
+returns-in_err-ranges-clause-same c = let p = err_from_is_err_and c.from_residual.result c.from_residual.ensures.1 in rw p.1 tt
