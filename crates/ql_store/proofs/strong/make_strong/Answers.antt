@@ -1,5 +1,5 @@
 use Rattle.std.proofs.lemmas.Result.{err_from_is_err_and}
-use Rattle.std.proofs.Common.{◌≡◌, ◌<◌, true, ◌∷◌, [], ℕ, List, length, slice_index_or, subst, sym}
+use Rattle.std.proofs.Common.{tt, ◌≡◌, ◌<◌, true, ◌∷◌, [], ℕ, List, length, slice_index_or, subst, sym}
 use Rattle.ql_exec.specs.declared.effect.Effect.{Effect}
 use Rattle.ql_exec.specs.Execution.{effect_of}
 use Rattle.ql_machine.specs.Sets.{AreThose}
@@ -72,3 +72,42 @@ returns-in_err-id-clause-received g c = let p = err_from_is_err_and c.from_resid
 
 pub returns-in_err-id-clause-reply : goal.returns-in_err-id-clause-reply
 returns-in_err-id-clause-reply g c = let p = err_from_is_err_and c.from_residual-in_err-id.result c.from_residual-in_err-id.ensures.1 in rw p.1 tt
+
+pub returns-clause-fit : goal.returns-clause-fit
+returns-clause-fit g c = ?
+
+pub returns-clause-made : goal.returns-clause-made
+returns-clause-made g c = ?
+
+pub returns-clause-noted : goal.returns-clause-noted
+returns-clause-noted g c = ?
+
+pub returns-clause-received : goal.returns-clause-received
+returns-clause-received g c = ?
+
+pub returns-clause-same_received : goal.returns-clause-same_received
+returns-clause-same_received g c = tt
+
+pub returns-clause-same : goal.returns-clause-same
+returns-clause-same g c = tt
+
+pub returns-in-Err-clause-made : goal.returns-in-Err-clause-made
+returns-in-Err-clause-made g c = tt
+
+pub returns-in-Err-clause-received : goal.returns-in-Err-clause-received
+returns-in-Err-clause-received g c = tt
+
+pub returns-in-Err-clause-reply : goal.returns-in-Err-clause-reply
+returns-in-Err-clause-reply g c = tt
+
+pub returns-in-Err-clause-same : goal.returns-in-Err-clause-same
+returns-in-Err-clause-same g c = ?
+
+pub returns-in-Err-clause-same_received : goal.returns-in-Err-clause-same_received
+returns-in-Err-clause-same_received g c = ?
+
+pub push_noted-requires-clause-lawful : goal.push_noted-requires-clause-lawful
+push_noted-requires-clause-lawful g c = ?
+
+pub push_noted-requires-clause-noted : goal.push_noted-requires-clause-noted
+push_noted-requires-clause-noted g c = ?
