@@ -1,3 +1,4 @@
+use Rattle.std.proofs.lemmas.Result.{err_from_is_err_and}
 use Rattle.std.proofs.Common.{◌≡◌, ℕ, List, Ok, subst, sym}
 use Rattle.ql_reply.specs.Lines.{reported_line}
 use Rattle.ql_reply.specs.declared.status.Status.{Status}
@@ -58,3 +59,9 @@ returns-clause-noted g c = λ fault is.
     wrote Reports (g.K.Sink.written c.args.sink.now) (g.K.Sink.written c.write_reply-status.new.sink) (g.K.Sink.faults c.args.sink.now) (g.K.Sink.faults c.write_reply-status.new.sink)
     c.in_ok-answered.answered.reply.status c.write_reply-status.result c.in_ok-answered.answered.reply.text.items (λ both. let same = both.0 in absurd (cc))
     (c.in_ok-answered.answered.reply.noted fault is) (rw c.deref.ensures.value at c.write_reply-status.ensures.written)
+
+pub returns-in_err-answered-clause-noted : goal.returns-in_err-answered-clause-noted
+returns-in_err-answered-clause-noted g c = let p = err_from_is_err_and c.from_residual.result c.from_residual.ensures.1 in rw p.1 tt
+
+pub returns-in_err-answered-clause-wrote : goal.returns-in_err-answered-clause-wrote
+returns-in_err-answered-clause-wrote g c = let p = err_from_is_err_and c.from_residual.result c.from_residual.ensures.1 in rw p.1 tt
