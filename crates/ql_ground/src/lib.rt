@@ -19,5 +19,6 @@ mod worked;
 
 pub use goal::{Goal, problem};
 pub use level_laws::{first_other_decides, higher_levels_ask_more};
+pub use rule::{I, J, K, Rule, add_instance, add_rule};
 pub use soundness::{refuted_op_is_implied, refuted_txn_is_implied};
 pub use worked::problems_of_one_operation;
