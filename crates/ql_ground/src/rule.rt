@@ -7,7 +7,7 @@ ghost use Rattle.ql_ground.specs.Ground.{at, choices, instances};
 ghost use Rattle.ql_ground.specs.Ground as groups;
 ghost use Rattle.ql_ground.specs.Parts.{IsRuleAtom, literal_of, rule_of, instance};
 
-use crate::literal::{add_clause, literal};
+use crate::clause::{add_clause, literal};
 use ql_atoms::{Atom, Shape};
 use ql_base::NoMemory;
 use ql_cnf::{Clauses, Lit};
