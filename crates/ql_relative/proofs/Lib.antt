@@ -1,3 +1,4 @@
 pub mod Lowest
 pub mod Keeping
 pub mod Refuted
+pub mod Problems

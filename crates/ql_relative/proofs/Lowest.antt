@@ -1,5 +1,5 @@
 -- At whatever level an effect is, it sees what is before an effect that it sees, on one object.
-use Rattle.std.proofs.Common.{◌≡◌, ℕ, Bool, true, ◌&&◌, ◌||◌, ◌==◌, inl, inr, List, [], ◌∷◌, subst}
+use Rattle.std.proofs.Common.{◌≡◌, ℕ, true, ◌&&◌, ◌||◌, ◌==◌, inl, inr, List, [], ◌∷◌, subst}
 use Rattle.std.proofs.lemmas.Bool.{and_from, eqb-true, or_cases, or_right}
 use Rattle.ql_lang.specs.declared.formula.OpChoice.TheVariants.{Any}
 use Rattle.ql_levels.specs.declared.level.Level.{Level}

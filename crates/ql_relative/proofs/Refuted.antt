@@ -1,12 +1,11 @@
 -- A relative problem that no assignment satisfies: the contract holds wherever all effects keep the levels.
-use Rattle.std.proofs.Common.{◌≡◌, ℕ, ◌==◌, ◌<◌, Bool, true, false, inl, inr, List, [], ◌∷◌, ◌++◌, length, Some, refl, sym, subst, ◌∙◌, ap, eqb-true}
+use Rattle.std.proofs.Common.{◌≡◌, ℕ, ◌==◌, ◌<◌, Bool, true, false, inl, inr, List, [], ◌∷◌, ◌++◌, length, Some, refl, subst, ◌∙◌, eqb-true}
 use Rattle.std.proofs.lemmas.Bool.{cases_Bool}
 use Rattle.std.specs.Prelude.{slice_index}
 use Rattle.std.specs.List.{list_all}
 use Rattle.ql_atoms.specs.Atoms.{Size}
-use Rattle.ql_atoms.specs.declared.atoms.Atom.{Atom}
 use Rattle.ql_cnf.specs.Circuits.{clauses_of}
-use Rattle.ql_cnf.specs.Satisfaction.{ClauseList, IsUnsatisfiable, Satisfies, all_true, clause_true}
+use Rattle.ql_cnf.specs.Satisfaction.{ClauseList, IsUnsatisfiable, Satisfies, clause_true}
 use Rattle.ql_cnf.specs.declared.lit.Lit.{Lit}
 use Rattle.ql_cnf.proofs.CircuitLaws.{all_true-clauses_of}
 use Rattle.ql_lang.specs.Formulas.{Resolved}
@@ -17,7 +16,6 @@ use Rattle.ql_ground.specs.Ground.{op_size, txn_size}
 use Rattle.ql_ground.specs.Implication.{IsContractOf}
 use Rattle.ql_ground.specs.Relations.{inside, is_op}
 use Rattle.ql_ground.specs.Truth.{Holds, statement_true}
-use Rattle.ql_ground.proofs.Axioms.{atom_true}
 use Rattle.ql_ground.proofs.Laws.{one-found}
 use Rattle.ql_ground.proofs.Refuted.{chosen-effect, none, op_constants, op_satisfied, txn_satisfied}
 use Rattle.ql_ground.proofs.Upto.{all-append}
@@ -56,6 +54,6 @@ txn_relative-sound types levels uses d f contract unsatisfiable x law fits keeps
           let a = txn_satisfied types (txn_level levels d) f contract x law fits run kept_level.holds places chosen broken in
           let there : (i : ℕ) → i < length f.vars → (e : Effect) × (effect_at x (slice_index places i) ≡ Some e) = chosen-effect x f.vars places chosen in
           absurd (unsatisfiable a.values (with_lists-satisfied a.values _ (kept levels s ++ used uses s) a.satisfies (all-append (clause_true a.values) (kept levels s) (used uses s)
-              (kept-true x law levels keeps (inside x run) places s there a.values a.reads)
-              (used-true x types fits levels uses run d kept_level places s refl there a.values a.reads))))
+          (kept-true x law levels keeps (inside x run) places s there a.values a.reads)
+          (used-true x types fits levels uses run d kept_level places s refl there a.values a.reads))))
     ]

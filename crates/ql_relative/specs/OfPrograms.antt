@@ -1,5 +1,5 @@
 -- Targets of a program: its operations and then its declared transactions, numbered from 0.
-use Rattle.std.specs.Prelude.{ℕ, ◌+◌, ◌-◌, ◌≡◌, nat_lt, if◌then◌else◌, Some, length, slice_get}
+use Rattle.std.specs.Prelude.{ℕ, ◌+◌, ◌-◌, ◌≡◌, nat_lt, MatchBool, Some, length, slice_get}
 use Rattle.ql_cnf.specs.Satisfaction.{ClauseList}
 use Rattle.ql_lang.specs.Formulas.{Resolved}
 use Rattle.ql_lang.specs.declared.program.Program.{Program}
@@ -29,7 +29,7 @@ IsTxnRelative p levels d c =
 -- the relative problem of a target
 abbrev pub IsRelative : Program → LevelLists → ℕ → ClauseList → Type 0
 IsRelative p levels target c =
-    if nat_lt target (length (all_ops p.types)) then IsOpRelative p levels target c else IsTxnRelative p levels (target - length (all_ops p.types)) c
+    MatchBool (nat_lt target (length (all_ops p.types))) (IsOpRelative p levels target c) (IsTxnRelative p levels (target - length (all_ops p.types)) c)
 
 -- an operation, or a declared transaction, meets its contract wherever all effects keep the levels
 abbrev pub OpMeets : Program → LevelLists → ℕ → Type 0
@@ -41,4 +41,4 @@ TxnMeets p levels d = (f : Resolved) → slice_get (txn_contracts p) d ≡ Some 
 -- a target does
 abbrev pub TargetMeets : Program → LevelLists → ℕ → Type 0
 TargetMeets p levels target =
-    if nat_lt target (length (all_ops p.types)) then OpMeets p levels target else TxnMeets p levels (target - length (all_ops p.types))
+    MatchBool (nat_lt target (length (all_ops p.types))) (OpMeets p levels target) (TxnMeets p levels (target - length (all_ops p.types)))

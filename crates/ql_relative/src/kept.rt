@@ -1,6 +1,7 @@
 ghost use Rattle.std.specs.Prelude.{◌≡◌, ◌<◌, ◌≤◌, ◌++◌, length, OnOk};
 ghost use Rattle.std.specs.List.{All};
 ghost use Rattle.ql_atoms.specs.Atoms.{size_of, count_of};
+ghost use Rattle.ql_base.specs.Ranges.{upto};
 ghost use Rattle.ql_cnf.specs.Circuits.{clauses_of};
 ghost use Rattle.ql_ground.specs.Parts.{IsRuleAtom, rule_of};
 ghost use Rattle.ql_relative.specs.Relative.{instances_at, kept_at};
@@ -34,12 +35,7 @@ pub(crate) fn add_kept(
 }
 
 // What each effect keeps of its operation's level.
-fn add_operations(
-    alloc: Global,
-    levels: &Levels,
-    s: Shape,
-    c: &mut Clauses,
-) -> Result<(), NoMemory>
+fn add_operations(alloc: Global, levels: &Levels, s: Shape, c: &mut Clauses) -> Result<(), NoMemory>
     requires levels { length levels.now.ops ≡ s.operations }
     requires variables { count_of (size_of s) ≤ c.old.variables }
     ensures variables { c.new.variables ≡ c.old.variables }
@@ -71,8 +67,8 @@ fn add_kept_of(
         ++ clauses_of (groups.kept_of levels.now (size_of s) effect)) }
 {
     for o in 0..s.operations {
-        let o = OpId(o);
-        add_kept_at((o, levels.op(o)), effect, s, lits, c)?;
+        let op = OpId(o);
+        add_kept_at((op, levels.op(op)), effect, s, lits, c)?;
     }
     Ok(())
 }
@@ -98,12 +94,24 @@ fn add_kept_at(
         // It sees what is before it, on one object.
         Level::Causal => {
             let before = [Is(o, I), Pair(Hbo, J, I)];
-            add_instances_at(&Rule::over(2, &before, &[Pair(Vis, J, I)]), effect, s, lits, c)
+            add_instances_at(
+                &Rule::over(2, &before, &[Pair(Vis, J, I)]),
+                effect,
+                s,
+                lits,
+                c,
+            )
         }
         // It sees what is before it, also by way of other objects.
         Level::Wide => {
             let before = [Is(o, I), Pair(Hb, J, I), Pair(SameObj, J, I)];
-            add_instances_at(&Rule::over(2, &before, &[Pair(Vis, J, I)]), effect, s, lits, c)
+            add_instances_at(
+                &Rule::over(2, &before, &[Pair(Vis, J, I)]),
+                effect,
+                s,
+                lits,
+                c,
+            )
         }
         // It sees each other effect on the object, or is seen by it.
         Level::Strong => {

@@ -17,12 +17,7 @@ use std::alloc::Global;
 /// effect keeps the level of its operation, and the target its own. The target is the number of an operation, or that
 /// of a declared transaction counted after all operations. The clauses of its ground problem at its level come first,
 /// so their numbers are the same.
-pub fn relative(
-    alloc: Global,
-    t: &Typed,
-    levels: &Levels,
-    target: u32,
-) -> Result<Clauses, NoMemory>
+pub fn relative(alloc: Global, t: &Typed, levels: &Levels, target: u32) -> Result<Clauses, NoMemory>
     requires levels { AreFor t.now.program levels.now }
     requires target { target < targets t.now.program }
 
@@ -42,12 +37,7 @@ pub fn relative(
     }
 }
 
-fn op_relative(
-    alloc: Global,
-    t: &Typed,
-    levels: &Levels,
-    o: OpId,
-) -> Result<Clauses, NoMemory>
+fn op_relative(alloc: Global, t: &Typed, levels: &Levels, o: OpId) -> Result<Clauses, NoMemory>
     requires levels { AreFor t.now.program levels.now }
     requires op { o.0 < length (all_ops t.now.program.types) }
     ensures list { IfOk result (IsOpRelative t.now.program levels.now o.0) }
@@ -63,12 +53,7 @@ fn op_relative(
     Ok(c)
 }
 
-fn txn_relative(
-    alloc: Global,
-    t: &Typed,
-    levels: &Levels,
-    d: DeclId,
-) -> Result<Clauses, NoMemory>
+fn txn_relative(alloc: Global, t: &Typed, levels: &Levels, d: DeclId) -> Result<Clauses, NoMemory>
     requires levels { AreFor t.now.program levels.now }
     requires txn { d.0 < length t.now.program.txns }
     ensures list { IfOk result (IsTxnRelative t.now.program levels.now d.0) }

@@ -1,15 +1,16 @@
-ghost use Rattle.std.specs.Prelude.{◌≡◌, ◌<◌, ◌≤◌, ◌++◌, length, map, OnOk};
-ghost use Rattle.ql_atoms.specs.Atoms.{size_of, count_of, number_of};
-ghost use Rattle.ql_base.specs.Ranges.{upto};
-ghost use Rattle.ql_cnf.specs.Circuits.{clauses_of, yes};
+ghost use Rattle.std.specs.Prelude.{◌≡◌, ◌<◌, ◌≤◌, ◌++◌, true, length, map, OnOk};
+ghost use Rattle.ql_atoms.specs.Atoms.{size_of, count_of};
+ghost use Rattle.ql_cnf.specs.Circuits.{clauses_of};
 ghost use Rattle.ql_cnf.specs.Satisfaction.{AreInRange};
 ghost use Rattle.ql_typing.specs.Operations.{all_ops, uses_op};
+ghost use Rattle.ql_ground.specs.Parts.{literal_of};
 ghost use Rattle.ql_relative.specs.Relative.{used_at, used_atoms};
 ghost use Rattle.ql_relative.specs.Relative as groups;
 
-use ql_atoms::{Atom, Shape, number};
+use ql_atoms::{Atom, Shape};
 use ql_base::{DeclId, NoMemory, OpId};
 use ql_cnf::{Clauses, Lit};
+use ql_ground::literal;
 use ql_typing::Typed;
 use std::alloc::Global;
 
@@ -55,10 +56,7 @@ fn add_used_at(
 {
     let (d, effect) = place;
     lits.clear();
-    lits.push(Lit {
-        var: number(Atom::Current(effect), s),
-        positive: false,
-    })?;
+    lits.push(literal(Atom::Current(effect), false, s))?;
     push_used(t, d, effect, s, lits)?;
     c.add(lits)?;
     Ok(())
@@ -78,16 +76,13 @@ fn push_used(
     requires in_range { AreInRange (count_of (size_of s)) lits.old.items }
     ensures lits { OnOk result
         (lits.new.items ≡ lits.old.items
-        ++ map (λ a. yes (number_of (size_of s) a)) (used_atoms (uses_op t.now.program d.0) (size_of s) effect)) }
+        ++ map (literal_of (size_of s) true) (used_atoms (uses_op t.now.program d.0) (size_of s) effect)) }
     ensures in_range { OnOk result (AreInRange (count_of (size_of s)) lits.new.items) }
 {
     for o in 0..s.operations {
-        let o = OpId(o);
-        if t.uses(d, o) {
-            lits.push(Lit {
-                var: number(Atom::Is(o, effect), s),
-                positive: true,
-            })?;
+        let op = OpId(o);
+        if t.uses(d, op) {
+            lits.push(literal(Atom::Is(op, effect), true, s))?;
         }
     }
     Ok(())
