@@ -26,8 +26,9 @@ use Rattle.ql_ground.proofs.LevelRules.{gives}
 use Rattle.ql_ground.proofs.Operations.{AllFit-upto, some_from}
 use Rattle.ql_ground.proofs.ReadOff.{ReadsOff}
 use Rattle.ql_ground.proofs.Upto.{all-append, upto-all, upto-any}
-use Rattle.ql_relative.specs.Keeping.{KeepsLevel, KeepsLevels, op_level}
+use Rattle.ql_relative.specs.Keeping.{op_level}
 use Rattle.ql_relative.specs.Relative.{causal_rule, eventual_rule, kept, kept_at, kept_of, strong_rule, used, used_at, used_atoms, wide_rule}
+use Rattle.ql_relative.proofs.PlainKeeping.{KeepsLevel, KeepsLevels}
 use Rattle.ql_relative.proofs.Lowest.{before-seen}
 
 module _ (x : List Effect) (law : IsExecution x) (levels : LevelLists) (keeps : KeepsLevels levels x) (current : ℕ → Bool) (effects : List ℕ) (s : Size) (there : (i : ℕ) → i < s.constants → (e : Effect) × (effect_at x (slice_index effects i) ≡ Some e)) (assigned : List Bool) (reads : ReadsOff assigned s (atom_true x current effects)) where

@@ -28,6 +28,7 @@ use Rattle.ql_ground.proofs.Typing.{op_contract, txn_contract}
 use Rattle.ql_relative.specs.Keeping.{op_level, txn_level}
 use Rattle.ql_relative.specs.OfPrograms.{IsOpRelative, IsRelative, IsTxnRelative, OpMeets, TargetMeets, TxnMeets}
 use Rattle.ql_relative.specs.Relative.{kept, op_relative, txn_relative, used, with_lists}
+use Rattle.ql_relative.proofs.Carried.{op_carried, txn_carried}
 use Rattle.ql_relative.proofs.Refuted.{op_relative-sound, txn_relative-sound}
 
 -- one more number of a range, where its part may be empty
@@ -89,15 +90,15 @@ pub op_meets : (p : Program) (levels : LevelLists) (o : ℕ) (f : Resolved) (c :
 op_meets p levels o f c there formed (g, it, is) unsatisfiable k there_k =
     let f_is : f ≡ k = cc in
     let g_is : g ≡ k = cc in
-    op_relative-sound (op_kinds p.types) levels o k (subst (λ r. IsContractOf (op_kinds p.types) true r) f_is (op_contract p.types (op_kinds p.types) f refl formed))
-    (subst IsUnsatisfiable (is ∙ ap (λ r. op_relative (op_kinds p.types) levels o r) g_is) unsatisfiable)
+    op_carried (op_kinds p.types) levels o k (op_relative-sound (op_kinds p.types) levels o k (subst (λ r. IsContractOf (op_kinds p.types) true r) f_is (op_contract p.types (op_kinds p.types) f refl formed))
+    (subst IsUnsatisfiable (is ∙ ap (λ r. op_relative (op_kinds p.types) levels o r) g_is) unsatisfiable))
 
 pub txn_meets : (p : Program) (levels : LevelLists) (d : ℕ) (f : Resolved) (c : ClauseList) → slice_get (txn_contracts p) d ≡ Some f → IsTxnContract (length (all_ops p.types)) f → IsTxnRelative p levels d c → IsUnsatisfiable c → TxnMeets p levels d
 txn_meets p levels d f c there formed (g, it, is) unsatisfiable k there_k =
     let f_is : f ≡ k = cc in
     let g_is : g ≡ k = cc in
-    txn_relative-sound (op_kinds p.types) levels (uses_op p d) d k (subst (λ r. IsContractOf (op_kinds p.types) false r) f_is (txn_contract p.types (op_kinds p.types) f refl formed))
-    (subst IsUnsatisfiable (is ∙ ap (λ r. txn_relative (op_kinds p.types) levels (uses_op p d) d r) g_is) unsatisfiable)
+    txn_carried (op_kinds p.types) levels (uses_op p d) d k (txn_relative-sound (op_kinds p.types) levels (uses_op p d) d k (subst (λ r. IsContractOf (op_kinds p.types) false r) f_is (txn_contract p.types (op_kinds p.types) f refl formed))
+    (subst IsUnsatisfiable (is ∙ ap (λ r. txn_relative (op_kinds p.types) levels (uses_op p d) d r) g_is) unsatisfiable))
 
 -- the targets below the number of operations are operations, and the others are transactions
 pub op_relative_of : (p : Program) (levels : LevelLists) (target : ℕ) (c : ClauseList) → target < length (all_ops p.types) → IsOpRelative p levels target c → IsRelative p levels target c

@@ -19,8 +19,9 @@ use Rattle.ql_ground.specs.Truth.{Holds, statement_true}
 use Rattle.ql_ground.proofs.Laws.{one-found}
 use Rattle.ql_ground.proofs.Refuted.{chosen-effect, none, op_constants, op_satisfied, txn_satisfied}
 use Rattle.ql_ground.proofs.Upto.{all-append}
-use Rattle.ql_relative.specs.Keeping.{KeepsLevels, Meets, MeetsTxn, op_level, txn_level}
+use Rattle.ql_relative.specs.Keeping.{op_level, txn_level}
 use Rattle.ql_relative.specs.Relative.{kept, op_relative, txn_relative, used, with_lists}
+use Rattle.ql_relative.proofs.PlainKeeping.{KeepsLevels, Meets, MeetsTxn}
 use Rattle.ql_relative.proofs.Keeping.{kept-true, used-true}
 
 -- an assignment that satisfies a problem, and in which more lists are true, satisfies the problem with these
