@@ -8,8 +8,8 @@ use ql_atoms::{Atom, Shape, number};
 use ql_base::NoMemory;
 use ql_cnf::{Clauses, Lit};
 
-// The literal of an atom, or of its negation.
-pub(crate) fn literal(a: Atom, positive: bool, s: Shape) -> Lit
+/// The literal of an atom, or of its negation.
+pub fn literal(a: Atom, positive: bool, s: Shape) -> Lit
     requires { Fits (size_of s) a }
     ensures value { result ≡ literal_of (size_of s) positive a }
     ensures in_range { (1 ≤ result.var) × (result.var ≤ count_of (size_of s)) }
