@@ -1,6 +1,6 @@
 ghost use Rattle.std.specs.Prelude.{◌≡◌, ◌≤◌, ◌+◌, ℕ, length, vec_len, vec_capacity, ◌||◌, ◌∷◌, false, IfOk};
-ghost use Rattle.ql_disk.specs.Bytes.{IsImage, overwritten, in_range};
-ghost use Rattle.ql_disk.specs.Marks.{is_marked, marked_bytes};
+ghost use Rattle.ql_journal.specs.Bytes.{IsImage, overwritten, in_range};
+ghost use Rattle.ql_journal.specs.Marks.{is_marked, marked_bytes};
 
 use crate::disk::Disk;
 use ql_base::NoMemory;
@@ -29,7 +29,7 @@ pub struct MemDisk {
 
 impl MemDisk {
     ghost use Rattle.std.specs.Prelude.{◌≡◌, IfOk, [], if◌then◌else◌};
-    ghost use Rattle.ql_disk.specs.MemDisks.{IsNewDisk, IsCrashed, content_of};
+    ghost use Rattle.ql_journal.specs.MemDisks.{IsNewDisk, IsCrashed, content_of};
 
     /// An empty disk with room for `room` bytes. Its writes and syncs, counted from 1, fail from number
     /// `cut` on.
@@ -86,8 +86,8 @@ impl MemDisk {
 }
 
 impl Disk for MemDisk {
-    ghost use Rattle.ql_disk.specs.MemDisks.{bytes_of, faults_of, forecast_of};
-    ghost use Rattle.ql_disk.specs.Bytes.{IsImage};
+    ghost use Rattle.ql_journal.specs.MemDisks.{bytes_of, faults_of, forecast_of};
+    ghost use Rattle.ql_journal.specs.Bytes.{IsImage};
 
     ghost reports = { Unit {0} };
 

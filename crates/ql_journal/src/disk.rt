@@ -1,9 +1,9 @@
 ghost use Rattle.std.specs.Prelude.{◌≡◌, ◌<◌, ◌≤◌, ◌+◌, ◌^◌, ◌&&◌, ℕ, List, Option, Some, length, take, drop, IfOk, OnOk, OnErr, IfSome, OnSome, IsOk};
 ghost use Rattle.std.specs.Result.{is_ok};
 ghost use Rattle.ql_ports.specs.Faults.{Rose};
-ghost use Rattle.ql_disk.specs.Bytes.{DiskBytes, IsImage, IsWritten, IsTorn, IsSynced};
-ghost use Rattle.ql_disk.specs.Forecasts.{Forecast, is_done, next};
-ghost use Rattle.ql_disk.specs.Moments.{Elapses};
+ghost use Rattle.ql_journal.specs.Bytes.{DiskBytes, IsImage, IsWritten, IsTorn, IsSynced};
+ghost use Rattle.ql_journal.specs.Forecasts.{Forecast, is_done, next};
+ghost use Rattle.ql_journal.specs.Moments.{Elapses};
 
 use ql_ports::Failed;
 

@@ -1,9 +1,9 @@
 use Rattle.std.proofs.Common.{length, ◌∙◌, ap}
 use Rattle.std.proofs.lemmas.Result.{on_err_weaker}
-use Rattle.ql_disk.specs.Bytes.{DiskBytes, MayLeave}
-use Rattle.ql_disk.proofs.Stops.{started, goes_on}
-use Rattle.ql_disk.proofs.Lasting.{after_failure, at_first, torn, written, at_last}
-use Rattle.ql_disk.proofs.durable.write_durably.Goals as goal
+use Rattle.ql_journal.specs.Bytes.{DiskBytes, MayLeave}
+use Rattle.ql_journal.proofs.Stops.{started, goes_on}
+use Rattle.ql_journal.proofs.Lasting.{after_failure, at_first, torn, written, at_last}
+use Rattle.ql_journal.proofs.durable.write_durably.Goals as goal
 
 pub returns-in_err-write_at-clause-any_moment : goal.returns-in_err-write_at-clause-any_moment
 returns-in_err-write_at-clause-any_moment g c = λ reported.

@@ -1,6 +1,6 @@
 -- What stops at any moment of a run of calls may have left.
 use Rattle.std.specs.Prelude.{ℕ, ◌≤◌, ◌⊎◌, List}
-use Rattle.ql_disk.specs.Bytes.{DiskBytes, IsImage}
+use Rattle.ql_journal.specs.Bytes.{DiskBytes, IsImage}
 
 -- Time passes in a call: what a stop since a moment may have left, it may have left before the call, or it may leave
 -- now.

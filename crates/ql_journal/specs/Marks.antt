@@ -1,6 +1,6 @@
 -- Bytes with a mark for each that was written since the last good sync.
 use Rattle.std.specs.Prelude.{ℕ, Bool, false, slice_index_or, List}
-use Rattle.ql_disk.specs.Bytes.{DiskBytes}
+use Rattle.ql_journal.specs.Bytes.{DiskBytes}
 
 -- whether the byte of an offset is marked
 abbrev pub is_marked : List Bool → ℕ → Bool

@@ -1,9 +1,9 @@
 ghost use Rattle.std.specs.Prelude.{◌≡◌, ◌<◌, ◌≤◌, ◌+◌, ◌^◌, length, OnOk, OnErr, IfSome};
 ghost use Rattle.std.specs.Result.{is_ok};
 ghost use Rattle.ql_ports.specs.Faults.{Rose};
-ghost use Rattle.ql_disk.specs.Bytes.{IsClean, MayLeave, overwritten};
-ghost use Rattle.ql_disk.specs.Forecasts.{Foretold};
-ghost use Rattle.ql_disk.specs.Moments.{LeavesOnly};
+ghost use Rattle.ql_journal.specs.Bytes.{IsClean, MayLeave, overwritten};
+ghost use Rattle.ql_journal.specs.Forecasts.{Foretold};
+ghost use Rattle.ql_journal.specs.Moments.{LeavesOnly};
 
 use crate::disk::Disk;
 use ql_ports::Failed;

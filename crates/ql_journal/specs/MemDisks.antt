@@ -1,9 +1,9 @@
 -- A disk in memory, whose writes and syncs fail from a chosen one on.
 use Rattle.std.specs.Prelude.{◌≡◌, ℕ, ◌-◌, Bool, false, List, [], Option, Some, if◌then◌else◌}
-use Rattle.ql_disk.specs.declared.mem_disk.MemDisk.{MemDisk}
-use Rattle.ql_disk.specs.Bytes.{DiskBytes}
-use Rattle.ql_disk.specs.Marks.{marked_bytes}
-use Rattle.ql_disk.specs.Forecasts.{Forecast}
+use Rattle.ql_journal.specs.declared.mem_disk.MemDisk.{MemDisk}
+use Rattle.ql_journal.specs.Bytes.{DiskBytes}
+use Rattle.ql_journal.specs.Marks.{marked_bytes}
+use Rattle.ql_journal.specs.Forecasts.{Forecast}
 
 -- the bytes of a disk in memory
 abbrev pub bytes_of : MemDisk → DiskBytes

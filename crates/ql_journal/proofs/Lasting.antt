@@ -1,7 +1,7 @@
 -- What a stop may leave in the two calls of a write that is to last.
 use Rattle.std.proofs.Common.{◌≡◌, ℕ, Result, Ok, Err, OnOk, OnErr, ◌<◌, ◌≤◌, false, List, length, get_or, refl, sym, ◌∙◌, subst, arith}
-use Rattle.ql_disk.specs.Bytes.{DiskBytes, IsImage, IsClean, IsWritten, IsTorn, IsSynced, MayLeave, overwritten, in_range}
-use Rattle.ql_disk.proofs.Overwriting.{outside, length-overwritten}
+use Rattle.ql_journal.specs.Bytes.{DiskBytes, IsImage, IsClean, IsWritten, IsTorn, IsSynced, MayLeave, overwritten, in_range}
+use Rattle.ql_journal.proofs.Overwriting.{outside, length-overwritten}
 
 module _ (old : DiskBytes) (clean : IsClean old) (at size : ℕ) where
   -- an image of a disk with the same base, of which nothing outside the range is dirty

@@ -1,7 +1,7 @@
 -- A disk that doesn't report its bytes.
 use Rattle.std.specs.Prelude.{false, [], Option, None}
-use Rattle.ql_disk.specs.Bytes.{DiskBytes}
-use Rattle.ql_disk.specs.Forecasts.{Forecast}
+use Rattle.ql_journal.specs.Bytes.{DiskBytes}
+use Rattle.ql_journal.specs.Forecasts.{Forecast}
 
 -- the bytes that stand for those of such a disk
 abbrev pub unreported : DiskBytes

@@ -1,7 +1,7 @@
 -- How a run of calls goes on, and what stops in it may leave.
 use Rattle.std.proofs.Common.{inl, inr, ⊎_elim, ℕ, List, arith}
-use Rattle.ql_disk.specs.Bytes.{DiskBytes, IsImage}
-use Rattle.ql_disk.specs.Moments.{Elapses, LeavesOnly}
+use Rattle.ql_journal.specs.Bytes.{DiskBytes, IsImage}
+use Rattle.ql_journal.specs.Moments.{Elapses, LeavesOnly}
 
 module _ {D : Type 0} (moment : D → ℕ) (left_since : D → ℕ → List ℕ → Type 0) where
   -- before the first call

@@ -1,8 +1,8 @@
 use Rattle.std.proofs.Common.{sym, subst}
-use Rattle.ql_disk.specs.Bytes.{IsImage}
-use Rattle.ql_disk.specs.Marks.{marked_bytes}
-use Rattle.ql_disk.proofs.Overwriting.{image}
-use Rattle.ql_disk.proofs.mem_disk.MemDiskDisk.write_at.Goals as goal
+use Rattle.ql_journal.specs.Bytes.{IsImage}
+use Rattle.ql_journal.specs.Marks.{marked_bytes}
+use Rattle.ql_journal.proofs.Overwriting.{image}
+use Rattle.ql_journal.proofs.mem_disk.MemDiskDisk.write_at.Goals as goal
 
 pub invariant_of-self-2-clause-is_image : goal.invariant_of-self-2-clause-is_image
 invariant_of-self-2-clause-is_image c =

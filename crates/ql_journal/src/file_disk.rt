@@ -1,8 +1,8 @@
 ghost use Rattle.std.specs.Prelude.{◌≡◌, ◌≤◌, IsOk, IsErr, OnErr};
 ghost use Rattle.std.specs.Result.{is_ok};
 ghost use Rattle.ql_ports.specs.Faults.{Rose, next_count_of};
-ghost use Rattle.ql_disk.specs.Forecasts.{Forecast};
-ghost use Rattle.ql_disk.specs.Unreported.{unknown, unreported};
+ghost use Rattle.ql_journal.specs.Forecasts.{Forecast};
+ghost use Rattle.ql_journal.specs.Unreported.{unknown, unreported};
 
 use crate::disk::Disk;
 use ql_ports::Failed;

@@ -2,8 +2,8 @@
 use Rattle.std.proofs.Common.{◌≡◌, ℕ, ◌+◌, ◌-◌, ◌<◌, ◌≤◌, ◌⊎◌, Bool, false, ◌||◌, leb, ltb, List, ◌++◌, length, take, drop, get_or, refl, sym, ◌∙◌, ap, inl, inr, arith}
 use Rattle.std.proofs.lemmas.Bool.{and_cases, leb-false, ltb-false, or_parts}
 use Rattle.std.proofs.lemmas.List.{get_or_append_left, get_or-append_right, get_or-take, get_or-drop, length-take-le, length-append, length-drop}
-use Rattle.ql_disk.specs.Bytes.{IsImage, overwritten, in_range}
-use Rattle.ql_disk.specs.Marks.{is_marked, marked_bytes}
+use Rattle.ql_journal.specs.Bytes.{IsImage, overwritten, in_range}
+use Rattle.ql_journal.specs.Marks.{is_marked, marked_bytes}
 
 pub outside_cases : (at size k : ℕ) → in_range at size k ≡ false → (k < at) ⊎ (at + size ≤ k)
 outside_cases at size k is = elim (and_cases (leb at k) (ltb k (at + size)) is) [
