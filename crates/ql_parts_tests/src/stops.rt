@@ -8,8 +8,7 @@ use ql_exec::Execution;
 use ql_holder::Holder;
 use ql_journal::{MemDisk, Station, StationWhy};
 use ql_plain_holder::{PlainHolder, package_of};
-use ql_tables::{check_table, number};
-use ql_test_inputs::id_set;
+use ql_test_inputs::{check_table, id_set, number};
 use std::alloc::Global;
 use std::test::Fail;
 
