@@ -1,6 +1,6 @@
 ghost use Rattle.std.specs.Prelude.{◌≡◌, ◌⊎◌, ◌≤◌, length, min, take};
 ghost use Rattle.std.specs.List.{position_or_len};
-ghost use Rattle.ql_excerpt.specs.Places.{IsBlankLine, IsInLine, IsPlace, is_line_feed};
+ghost use Rattle.ql_notes.specs.Places.{IsBlankLine, IsInLine, IsPlace, is_line_feed};
 
 /// A position in a text: its line, from 1, and in bytes the offset of that line's first byte and its own.
 #[derive(Clone, Copy)]

@@ -1,7 +1,7 @@
 -- Positions in a text, whose lines end with line feeds.
 use Rattle.std.specs.Prelude.{◌≡◌, ◌≢◌, ◌⊎◌, ◌==◌, ◌+◌, ◌<◌, ◌≤◌, ℕ, Bool, List, length, take, get_or}
 use Rattle.std.specs.List.{count_by}
-use Rattle.ql_excerpt.specs.declared.place.Place.{Place}
+use Rattle.ql_notes.specs.declared.place.Place.{Place}
 
 abbrev pub is_line_feed : ℕ → Bool
 is_line_feed b = b == 10

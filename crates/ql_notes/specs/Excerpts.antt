@@ -1,8 +1,8 @@
 -- A line of a file, with a mark below.
 use Rattle.std.specs.Prelude.{◌++◌, ◌+◌, ◌-◌, ◌/◌, ◌%◌, ◌==◌, ◌&&◌, ◌||◌, nat_le, nat_lt, if◌then◌else◌, ℕ, Bool, List, [], ◌∷◌, codes, decimal, drop, length, get_or, min, take, map}
 use Rattle.std.specs.List.{concat, position_or_len}
-use Rattle.ql_excerpt.specs.declared.place.Place.{Place}
-use Rattle.ql_excerpt.specs.Places.{is_line_feed}
+use Rattle.ql_notes.specs.declared.place.Place.{Place}
+use Rattle.ql_notes.specs.Places.{is_line_feed}
 
 -- the position after a file's name: its line and its column, from 1
 abbrev pub position : List ℕ → Place → List ℕ

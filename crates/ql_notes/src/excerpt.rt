@@ -1,9 +1,9 @@
 // A line of a file, with a mark under some bytes.
 ghost use Rattle.std.specs.Prelude.{◌≡◌, ◌++◌, ◌≤◌, ◌<◌, ◌==◌, [], if◌then◌else◌, length, map, min, take, OnOk};
 ghost use Rattle.std.specs.List.{concat};
-ghost use Rattle.ql_excerpt.specs.Excerpts.{blanks_below, excerpt, hex_digit, is_shown, marked_line, marks_below, position, shown_byte, shown_from, without_return};
-ghost use Rattle.ql_excerpt.specs.Places.{IsPlace};
-ghost use Rattle.ql_excerpt.specs.declared.place.Place.{Place};
+ghost use Rattle.ql_notes.specs.Excerpts.{blanks_below, excerpt, hex_digit, is_shown, marked_line, marks_below, position, shown_byte, shown_from, without_return};
+ghost use Rattle.ql_notes.specs.Places.{IsPlace};
+ghost use Rattle.ql_notes.specs.declared.place.Place.{Place};
 
 use crate::place::{Place, line_of, place_of};
 use ql_base::{NoMemory, push_all, push_bytes, push_number};

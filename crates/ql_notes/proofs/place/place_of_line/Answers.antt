@@ -1,7 +1,7 @@
 use Rattle.std.proofs.Common.{◌==◌, ap, arith}
-use Rattle.ql_excerpt.proofs.Scans.{IsPassedOver, blank_feed, blank_other, other_byte, scan_feed, scan_other}
-use Rattle.ql_excerpt.proofs.place.place_of_line.Goals as goal
-use Rattle.ql_excerpt.proofs.place.place_of_line.Goals.{then-text-k-eq10, else-text-k-eq10, else-line-number-via-then-line-number+else-text-k-ne32, else-line-number-via-else-line-number}
+use Rattle.ql_notes.proofs.Scans.{IsPassedOver, blank_feed, blank_other, other_byte, scan_feed, scan_other}
+use Rattle.ql_notes.proofs.place.place_of_line.Goals as goal
+use Rattle.ql_notes.proofs.place.place_of_line.Goals.{then-text-k-eq10, else-text-k-eq10, else-line-number-via-then-line-number+else-text-k-ne32, else-line-number-via-else-line-number}
 
 -- src/place.rt:34:5
 passed : (c : goal.Joined-text-k-eq10) → IsPassedOver c.args.text.now c.args.number c.loop-k.k c.loop-k.line

@@ -3,7 +3,7 @@ use Rattle.std.proofs.Common.{◌≡◌, ◌≢◌, ◌+◌, ◌<◌, ◌≤◌,
 use Rattle.std.specs.List.{count_by}
 use Rattle.std.proofs.Math.Nat.{eq-or-lt_of_le}
 use Rattle.std.proofs.lemmas.List.Sums.{count_by_more_no, count_by_more_yes}
-use Rattle.ql_excerpt.specs.Places.{IsLineStart, is_line_feed}
+use Rattle.ql_notes.specs.Places.{IsLineStart, is_line_feed}
 
 -- the line of an offset, and where it begins
 pub record IsScanned (text : List ℕ) (k line start : ℕ) : Type 0 where
