@@ -1,6 +1,6 @@
 use Rattle.std.proofs.lemmas.Result.{err_from_is_err_and}
 use Rattle.std.proofs.Common.{◌≡◌, ℕ, ◌+◌, List, [], ◌∷◌, ◌++◌, length, refl, sym, ◌∙◌, ap, subst, inl, arith}
-use Rattle.ql_disk.proofs.Stops.{started}
+use Rattle.ql_journal.proofs.Stops.{started}
 use Rattle.ql_holder.proofs.Packages.{package-in}
 use Rattle.ql_journal.specs.Images.{IsBeforeOrAfter}
 use Rattle.ql_holder.specs.Arrivals.{IsArrival}
