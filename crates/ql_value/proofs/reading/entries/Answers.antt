@@ -69,6 +69,3 @@ spaces_end-at-requires c = within c.args.bytes.now c.in_ok-value.behind 44 (sym 
 
 pub entry_value-requires : goal.entry_value-requires
 entry_value-requires c = c.in_ok-key.ensures.0
-
-pub returns-in_err-push : goal.returns-in_err-push
-returns-in_err-push c = let p = err_from_is_err_and c.from_residual-in_err-push.result c.from_residual-in_err-push.ensures.1 in rw p.1 tt
