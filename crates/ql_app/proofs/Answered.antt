@@ -1,74 +1,63 @@
--- a call whose files are held and in their grammars is answered with yes or no
-use Rattle.std.proofs.Common.{◌≡◌, ◌⊎◌, inl, inr, ℕ, ◌≤◌, List, length, Option, Some, None, Ok, rules, subst, codes}
+-- A call whose files were read whole and are in their grammars is answered with yes or no; and so is one whose files are held,
+-- where nothing fails.
+use Rattle.std.proofs.Common.{◌≡◌, ◌⊎◌, inl, inr, ℕ, ◌<◌, ◌≤◌, List, length, Option, Some, ap, subst, arith, rules}
 use Rattle.std.specs.Prelude.{IfSome}
+use Rattle.ql_ports.specs.Readings.{Reading}
+use Rattle.ql_ports.specs.Readings as file
 use Rattle.ql_reply.specs.declared.status.Status.{Status}
-use Rattle.ql_reply.specs.declared.status.Status.TheVariants.{Done, No, Bad, ReadFault, WriteFault, Usage, TooLarge}
-use Rattle.ql_reply.proofs.Replies.{no_usage}
-use Rattle.ql_app.specs.declared.outcome.Limits.{Limits}
+use Rattle.ql_app.specs.declared.words.Command.{Command}
+use Rattle.ql_app.specs.declared.words.PairCommand.{PairCommand}
 use Rattle.ql_app.specs.Words.{NamedRequest, OneFile, TwoFiles, IsRequest}
-use Rattle.ql_app.specs.Outcome.{AreHeld, CommandSays, ForRequest, IsAnswered, Judges, MeetsFault, MeetsLimit, NoneRose, PairSays, Says, RequestSays, second_limit}
-use Rattle.ql_reply.specs.Read.{IsRead}
+use Rattle.ql_app.specs.Calls.{AreHeld, AreRead, NoneRose, files_of}
+use Rattle.ql_app.specs.Outcome.{AreAnswerable, AreInGrammar, CommandSays, FileSays, IsAnswerable, IsYesOrNo, PairSays, RequestSays, Says, file_limit, second_limit}
+use Rattle.ql_app.proofs.OneFile.{of_bytes}
 
--- what is read is so of what is held, where that is reported
-abbrev IsOfHeld : ℕ → Option (List ℕ) → (List ℕ → Type 0) → Type 0
-IsOfHeld limit held P = IfSome held (λ bytes. (length bytes ≤ limit) × P bytes)
+module _ (words : List (List ℕ)) (status : Status) (text : List ℕ) where
+  -- what a command says of bytes in its grammar
+  one_answered : (c d : Command) (name other bytes : List ℕ) → IsRequest words (OneFile c name) → IsRequest words (OneFile d other) → IsAnswerable c bytes → CommandSays d bytes status text → IsYesOrNo status
+  one_answered c d name other bytes is too fits says = search rules
 
-of_read : (limit : ℕ) (held : Option (List ℕ)) (P : List ℕ → Type 0) → IsRead limit held P → IsOfHeld limit held P
-of_read limit None P r = tt
-of_read limit (Some whole) P r = subst (λ (w : List ℕ). (length w ≤ limit) × P w) r.are_held (r.short, r.is_so)
+  two_answered : (c d : PairCommand) (name other n m bytes more : List ℕ) → IsRequest words (TwoFiles c name other) → IsRequest words (TwoFiles d n m) → AreAnswerable c bytes more → PairSays d bytes more status text → IsYesOrNo status
+  two_answered c d name other n m bytes more is too fits says = search rules
 
-both : (limit second : ℕ) (held other : Option (List ℕ)) (P : List ℕ → List ℕ → Type 0) → IsRead limit held (λ bytes. IsRead second other (λ more. P bytes more))
-    → IsOfHeld limit held (λ bytes. IsOfHeld second other (λ more. P bytes more))
-both limit second None other P r = tt
-both limit second (Some whole) other P r =
-    subst (λ (w : List ℕ). (length w ≤ limit) × IsOfHeld second other (λ more. P w more)) r.are_held (r.short, of_read second other (λ more. P r.bytes more) r.is_so)
+  -- one file and two are asked for by other words
+  apart : (c : Command) (d : PairCommand) (name n m : List ℕ) → IsRequest words (OneFile c name) → IsRequest words (TwoFiles d n m) → ⊥
+  apart c d name n m is too = search rules
 
--- what is said of a call, of what is held alone
-abbrev JudgesHeld : Limits → (List ℕ → Option (List ℕ)) → NamedRequest → Status → List ℕ → Type 0
-JudgesHeld limits held (OneFile command name) status text = IsOfHeld limits.file (held name) (λ bytes. CommandSays command bytes status text)
-JudgesHeld limits held (TwoFiles command name other) status text =
-    IsOfHeld limits.file (held name) (λ bytes. IsOfHeld (second_limit limits command) (held other) (λ more. PairSays command bytes more status text))
+  request_answered : (first second : Reading) (named asked : NamedRequest) → IsRequest words named → IsRequest words asked → AreInGrammar named first second → RequestSays asked first second status text → IsYesOrNo status
+  request_answered first second (OneFile c name) (OneFile d n) is too (bytes, whole, short, fits) says =
+      one_answered c d name n bytes is too fits (of_bytes file_limit n first (CommandSays d) status text bytes whole short says)
+  request_answered first second (OneFile c name) (TwoFiles d n m) is too fits says = absurd (apart c d name n m is too)
+  request_answered first second (TwoFiles c name other) (OneFile d n) is too fits says = absurd (apart d c n name other too is)
+  request_answered first second (TwoFiles c name other) (TwoFiles d n m) is too (bytes, whole, short, more, all, few, fits) says =
+      let of_first = of_bytes file_limit n first (λ b. FileSays (second_limit d) m second (PairSays d b)) status text bytes whole short says in
+      two_answered c d name other n m bytes more is too fits
+      (of_bytes (second_limit d) m second (PairSays d bytes) status text more all (same_limit c d name other n m is too (length more) few) of_first)
+    where
+      same_limit : (c d : PairCommand) (name other n m : List ℕ) → IsRequest words (TwoFiles c name other) → IsRequest words (TwoFiles d n m) → (k : ℕ) → k ≤ second_limit c → k ≤ second_limit d
+      same_limit c d name other n m is too k less = search rules
 
-abbrev ReportsHeld : Limits → (List ℕ → Option (List ℕ)) → (List ℕ → ℕ) → (List ℕ → ℕ) → NamedRequest → Status → List ℕ → Type 0
-ReportsHeld limits held before after named Done text = JudgesHeld limits held named Done text
-ReportsHeld limits held before after named No text = JudgesHeld limits held named No text
-ReportsHeld limits held before after named Bad text = JudgesHeld limits held named Bad text
-ReportsHeld limits held before after named ReadFault text = MeetsFault limits held before after named text
-ReportsHeld limits held before after named WriteFault text = ⊥
-ReportsHeld limits held before after named Usage text = ⊥
-ReportsHeld limits held before after named TooLarge text = JudgesHeld limits held named TooLarge text ⊎ MeetsLimit limits held named text
+  pub answered : (first second : Reading) (named : NamedRequest) → IsRequest words named → AreInGrammar named first second → Says words first second status text → IsYesOrNo status
+  answered first second named is fits (inl (asked, too, says)) = request_answered first second named asked is too fits says
+  answered first second named is fits (inr (usage, none, line)) = absurd (none (named, is, tt))
 
-abbrev pub SaysHeld : Limits → List (List ℕ) → (List ℕ → Option (List ℕ)) → (List ℕ → ℕ) → (List ℕ → ℕ) → Status → List ℕ → Type 0
-SaysHeld limits words held before after status text =
-    ForRequest words (λ named. ReportsHeld limits held before after named status text)
-    ⊎ ((status ≡ Usage) × (ForRequest words (λ _. Unit {0}) → ⊥) × (text ≡ codes "usage\n"))
+module _ {S : Type 0} (Gives : List ℕ → S → ℕ → ℕ → List ℕ → S → Type 0) (held : List ℕ → Option (List ℕ)) (before after : List ℕ → ℕ) where
+  same_held : (at : Option (List ℕ)) (bytes whole : List ℕ) → at ≡ Some whole → IfSome at (λ w. bytes ≡ w) → bytes ≡ whole
+  same_held at bytes whole is same = subst (λ (h : Option (List ℕ)). IfSome h (λ w. bytes ≡ w)) is same
 
-judges_held : (limits : Limits) (held : List ℕ → Option (List ℕ)) (named : NamedRequest) (status : Status) (text : List ℕ) → Judges limits held named status text → JudgesHeld limits held named status text
-judges_held limits held (OneFile command name) status text r = of_read limits.file (held name) (λ bytes. CommandSays command bytes status text) r
-judges_held limits held (TwoFiles command name other) status text r =
-    both limits.file (second_limit limits command) (held name) (held other) (λ bytes more. PairSays command bytes more status text) r
+  not_above : (at : Option (List ℕ)) (limit : ℕ) (whole : List ℕ) → at ≡ Some whole → length whole ≤ limit → IfSome at (λ w. limit < length w) → ⊥
+  not_above at limit whole is less more = let above = subst (λ (h : Option (List ℕ)). IfSome h (λ w. limit < length w)) is more in omega (arith, less, above)
 
-reports_held : (limits : Limits) (held : List ℕ → Option (List ℕ)) (before after : List ℕ → ℕ) (named : NamedRequest) (status : Status) (text : List ℕ)
-    → RequestSays limits held before after named status text → ReportsHeld limits held before after named status text
-reports_held limits held before after named Done text t = judges_held limits held named Done text t
-reports_held limits held before after named No text t = judges_held limits held named No text t
-reports_held limits held before after named Bad text t = judges_held limits held named Bad text t
-reports_held limits held before after named ReadFault text t = t
-reports_held limits held before after named WriteFault text t = t
-reports_held limits held before after named Usage text t = t
-reports_held limits held before after named TooLarge text (inl t) = inl (judges_held limits held named TooLarge text t)
-reports_held limits held before after named TooLarge text (inr t) = inr t
-
-pub says_held : (limits : Limits) (words : List (List ℕ)) (held : List ℕ → Option (List ℕ)) (before after : List ℕ → ℕ) (status : Status) (text : List ℕ)
-    → Says limits words held before after status text → SaysHeld limits words held before after status text
-says_held limits words held before after status text (inl (named, request, t)) = inl (named, request, reports_held limits held before after named status text t)
-says_held limits words held before after status text (inr u) = inr u
-
-pub complete : (limits : Limits) (words : List (List ℕ)) (held : List ℕ → Option (List ℕ)) (before after : List ℕ → ℕ) (status : Status) (text : List ℕ) (named : NamedRequest)
-    → IsRequest words named → AreHeld limits held named → NoneRose before after named → SaysHeld limits words held before after status text → IsAnswered (Ok status)
-complete limits words held before after status text named request are_held none says = search rules
-
--- nothing is to be written with the status of a write fault
-pub never : (limits : Limits) (words : List (List ℕ)) (held : List ℕ → Option (List ℕ)) (before after : List ℕ → ℕ) (text : List ℕ) → Says limits words held before after WriteFault text → ⊥
-never limits words held before after text (inl (named, request, says)) = says
-never limits words held before after text (inr (same, none, is)) = no_usage same
+  -- what is held is what was read, where nothing failed
+  pub held_read : (named : NamedRequest) (s t : S) (first second : Reading) → AreHeld held named → NoneRose before after named → AreRead Gives held before after (files_of named) s first second t → AreInGrammar named first second
+  held_read (OneFile c name) s t (file.Whole bytes) second (whole, is, short, fits) none read =
+      (whole, ap file.Whole (same_held (held name) bytes whole is read.2), short, fits)
+  held_read (OneFile c name) s t file.Failed second are none read = absurd (none read)
+  held_read (OneFile c name) s t file.TooLarge second (whole, is, short, fits) none read = absurd (not_above (held name) file_limit whole is short read.1)
+  held_read (TwoFiles c name other) s t (file.Whole bytes) (file.Whole more) (whole, is, short, all, too, few, fits) none read =
+      (whole, ap file.Whole (same_held (held name) bytes whole is read.1.2), short, all, ap file.Whole (same_held (held other) more all too read.2.2), few, fits)
+  held_read (TwoFiles c name other) s t (file.Whole bytes) file.Failed are none read = absurd (none.1 read.2)
+  held_read (TwoFiles c name other) s t (file.Whole bytes) file.TooLarge (whole, is, short, all, too, few, fits) none read =
+      absurd (not_above (held other) (second_limit c) all too few read.2.1)
+  held_read (TwoFiles c name other) s t file.Failed second are none read = absurd (none.0 read)
+  held_read (TwoFiles c name other) s t file.TooLarge second (whole, is, short, fits) none read = absurd (not_above (held name) file_limit whole is short read.1)

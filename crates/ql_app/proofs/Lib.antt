@@ -1,7 +1,8 @@
 pub mod Powers
 pub mod HoldsLaws
-pub mod OutcomeLaws
 pub mod ProofLaws
+pub mod OneFile
 mod RequestLaws
 mod WordLaws
 mod Answered
+mod Missing

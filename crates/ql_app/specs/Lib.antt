@@ -4,4 +4,5 @@ pub mod HoldsFile
 pub mod HoldsFaults
 pub mod ProofFile
 pub mod Outcome
+pub mod Calls
 pub mod MissingFiles

@@ -1,9 +1,10 @@
--- What may be printed: for the arguments, the bytes of the files that they name and a status.
-use Rattle.std.specs.Prelude.{◌≡◌, ◌⊎◌, ℕ, ◌<◌, ◌≤◌, List, ◌++◌, length, Option, Some, Result, Ok, Err, IfSome, codes}
-use Rattle.ql_base.specs.declared.no_memory.NoMemory.{NoMemory}
-use Rattle.ql_ports.specs.Faults.{Rose}
-use Rattle.ql_app.specs.declared.outcome.Limits.{Limits}
-use Rattle.ql_reply.specs.Read.{IsRead}
+-- The answer: for the arguments, and what was read of the files that they name, a status and a text.
+use Rattle.std.specs.Prelude.{◌≡◌, ◌⊎◌, ℕ, ◌<◌, ◌≤◌, List, length, codes}
+use Rattle.ql_ports.specs.Readings.{Reading}
+use Rattle.ql_ports.specs.Readings as file
+use Rattle.ql_ports.specs.declared.whole.ReadWhy.{ReadWhy}
+use Rattle.ql_ports.specs.declared.whole.ReadWhy.TheVariants.{Failed, TooLong}
+use Rattle.ql_reply.specs.Unread.{IsUnread}
 use Rattle.ql_reply.specs.declared.status.Status.{Status}
 use Rattle.ql_reply.specs.declared.status.Status.TheVariants.{Done, No, Bad, ReadFault, WriteFault, Usage, TooLarge}
 use Rattle.ql_app.specs.declared.words.Command.{Command}
@@ -64,81 +65,60 @@ AreAnswerable (Run form) bytes more = AreRunnable bytes more
 AreAnswerable Slim bytes more = AreRunnable bytes more
 AreAnswerable (Restart replica cut) bytes more = AreRunnable bytes more
 
--- the limit of the second file: certificates and executions may be longer than schedules
-abbrev pub second_limit : Limits → PairCommand → ℕ
-second_limit limits Check = limits.second
-second_limit limits Verify = limits.second
-second_limit limits (Run form) = limits.file
-second_limit limits Slim = limits.file
-second_limit limits (Restart replica cut) = limits.file
+-- the limit of a file in bytes, and that of a second file: certificates and executions may be longer than schedules
+abbrev pub file_limit : ℕ
+file_limit = 1048576
 
--- the files were read whole, in the order of the arguments, and this is said of them
-abbrev pub Judges : Limits → (List ℕ → Option (List ℕ)) → NamedRequest → Status → List ℕ → Type 0
-Judges limits held (OneFile command name) status text = IsRead limits.file (held name) (λ bytes. CommandSays command bytes status text)
-Judges limits held (TwoFiles command name other) status text =
-    IsRead limits.file (held name) (λ bytes. IsRead (second_limit limits command) (held other) (λ more. PairSays command bytes more status text))
+abbrev pub second_limit : PairCommand → ℕ
+second_limit Check = 67108864
+second_limit Verify = 67108864
+second_limit (Run form) = file_limit
+second_limit Slim = file_limit
+second_limit (Restart replica cut) = file_limit
 
--- a file couldn't be read
-abbrev pub FailsToRead : (List ℕ → ℕ) → (List ℕ → ℕ) → List ℕ → List ℕ → Type 0
-FailsToRead before after name text = Rose (before name) (after name) × (text ≡ codes "read fault " ++ name ++ codes "\n")
+-- a file was read whole, within its limit, and this is so of its bytes
+abbrev pub IsReadSo : ℕ → Reading → (List ℕ → Type 0) → Type 0
+IsReadSo limit reading P = (bytes : List ℕ) × (reading ≡ file.Whole bytes) × (length bytes ≤ limit) × P bytes
 
--- the first file that couldn't be read, after those that were
-abbrev pub MeetsFault : Limits → (List ℕ → Option (List ℕ)) → (List ℕ → ℕ) → (List ℕ → ℕ) → NamedRequest → List ℕ → Type 0
-MeetsFault limits held before after (OneFile command name) text = FailsToRead before after name text
-MeetsFault limits held before after (TwoFiles command name other) text =
-    FailsToRead before after name text ⊎ (IsRead limits.file (held name) (λ _. Unit {0}) × FailsToRead before after other text)
+-- why it gives no bytes: it couldn't be read, or has more than the limit
+abbrev pub GivesNone : ℕ → Reading → ReadWhy → Type 0
+GivesNone limit (file.Whole bytes) why = (limit < length bytes) × (why ≡ TooLong)
+GivesNone limit file.Failed why = why ≡ Failed
+GivesNone limit file.TooLarge why = why ≡ TooLong
 
--- a file has more bytes than its limit, where its shelf reports them
-abbrev pub IsOver : ℕ → (List ℕ → Option (List ℕ)) → List ℕ → List ℕ → Type 0
-IsOver limit held name text = IfSome (held name) (λ bytes. limit < length bytes) × (text ≡ codes "too large " ++ name ++ codes "\n")
+-- What is said of a file with this limit and this name: of its bytes, or else why there are none.
+abbrev pub FileSays : ℕ → List ℕ → Reading → (List ℕ → Status → List ℕ → Type 0) → Status → List ℕ → Type 0
+FileSays limit name reading OfBytes status text =
+    IsReadSo limit reading (λ bytes. OfBytes bytes status text) ⊎ ((why : ReadWhy) × GivesNone limit reading why × IsUnread why name status text)
 
-abbrev pub MeetsLimit : Limits → (List ℕ → Option (List ℕ)) → NamedRequest → List ℕ → Type 0
-MeetsLimit limits held (OneFile command name) text = IsOver limits.file held name text
-MeetsLimit limits held (TwoFiles command name other) text =
-    IsOver limits.file held name text ⊎ (IsRead limits.file (held name) (λ _. Unit {0}) × IsOver (second_limit limits command) held other text)
-
--- what is said of a call
-abbrev pub RequestSays : Limits → (List ℕ → Option (List ℕ)) → (List ℕ → ℕ) → (List ℕ → ℕ) → NamedRequest → Status → List ℕ → Type 0
-RequestSays limits held before after named Done text = Judges limits held named Done text
-RequestSays limits held before after named No text = Judges limits held named No text
-RequestSays limits held before after named Bad text = Judges limits held named Bad text
-RequestSays limits held before after named ReadFault text = MeetsFault limits held before after named text
-RequestSays limits held before after named WriteFault text = ⊥
-RequestSays limits held before after named Usage text = ⊥
-RequestSays limits held before after named TooLarge text = Judges limits held named TooLarge text ⊎ MeetsLimit limits held named text
+-- what is said of a call, by what was read of its files: of the second one, where the first was read whole
+abbrev pub RequestSays : NamedRequest → Reading → Reading → Status → List ℕ → Type 0
+RequestSays (OneFile command name) first second status text = FileSays file_limit name first (CommandSays command) status text
+RequestSays (TwoFiles command name other) first second status text =
+    FileSays file_limit name first (λ bytes. FileSays (second_limit command) other second (PairSays command bytes)) status text
 
 -- the arguments ask for something, of which this is said
 abbrev pub ForRequest : List (List ℕ) → (NamedRequest → Type 0) → Type 0
 ForRequest words P = (named : NamedRequest) × IsRequest words named × P named
 
--- The text that is to be written with a status. `held` is what the shelf holds under each name, where it reports it, and the
--- counts are those of the shelf's faults at each name, before the call and after it.
-abbrev pub Says : Limits → List (List ℕ) → (List ℕ → Option (List ℕ)) → (List ℕ → ℕ) → (List ℕ → ℕ) → Status → List ℕ → Type 0
-Says limits words held before after status text =
-    ForRequest words (λ named. RequestSays limits held before after named status text)
+-- The answer to the arguments, by what was read of the files that they name, in their order: a status and a text.
+abbrev pub Says : List (List ℕ) → Reading → Reading → Status → List ℕ → Type 0
+Says words first second status text =
+    ForRequest words (λ named. RequestSays named first second status text)
     ⊎ ((status ≡ Usage) × (ForRequest words (λ _. Unit {0}) → ⊥) × (text ≡ codes "usage\n"))
 
--- the files are held whole, within their limits and in their grammars
-abbrev pub IsHeld : ℕ → Option (List ℕ) → (List ℕ → Type 0) → Type 0
-IsHeld limit held P = (bytes : List ℕ) × (held ≡ Some bytes) × (length bytes ≤ limit) × P bytes
+-- the files were read whole, within their limits, and are in their grammars
+abbrev pub AreInGrammar : NamedRequest → Reading → Reading → Type 0
+AreInGrammar (OneFile command name) first second = IsReadSo file_limit first (IsAnswerable command)
+AreInGrammar (TwoFiles command name other) first second =
+    IsReadSo file_limit first (λ bytes. IsReadSo (second_limit command) second (AreAnswerable command bytes))
 
-abbrev pub AreHeld : Limits → (List ℕ → Option (List ℕ)) → NamedRequest → Type 0
-AreHeld limits held (OneFile command name) = IsHeld limits.file (held name) (IsAnswerable command)
-AreHeld limits held (TwoFiles command name other) =
-    IsHeld limits.file (held name) (λ bytes. IsHeld (second_limit limits command) (held other) (λ more. AreAnswerable command bytes more))
-
--- no file's count rose
-abbrev pub NoneRose : (List ℕ → ℕ) → (List ℕ → ℕ) → NamedRequest → Type 0
-NoneRose before after (OneFile command name) = Rose (before name) (after name) → ⊥
-NoneRose before after (TwoFiles command name other) = (Rose (before name) (after name) → ⊥) × (Rose (before other) (after other) → ⊥)
-
--- yes, no, or running out of memory
-abbrev pub IsAnswered : Result Status NoMemory → Type 0
-IsAnswered (Ok Done) = Unit {0}
-IsAnswered (Ok No) = Unit {0}
-IsAnswered (Err error) = Unit {0}
-IsAnswered (Ok Bad) = ⊥
-IsAnswered (Ok ReadFault) = ⊥
-IsAnswered (Ok WriteFault) = ⊥
-IsAnswered (Ok Usage) = ⊥
-IsAnswered (Ok TooLarge) = ⊥
+-- yes or no
+abbrev pub IsYesOrNo : Status → Type 0
+IsYesOrNo Done = Unit {0}
+IsYesOrNo No = Unit {0}
+IsYesOrNo Bad = ⊥
+IsYesOrNo ReadFault = ⊥
+IsYesOrNo WriteFault = ⊥
+IsYesOrNo Usage = ⊥
+IsYesOrNo TooLarge = ⊥

@@ -1,6 +1,8 @@
 pub mod Faults
 pub mod Whole
 pub mod Written
+pub mod Reads
+pub mod Readings
 pub mod Memory
 pub mod MemShelf
 pub mod MemSink

@@ -1,4 +1,4 @@
-use Rattle.std.specs.Prelude.{◌≡◌, ℕ, List, Bool, true, false, Option, Some, None}
+use Rattle.std.specs.Prelude.{◌≡◌, ℕ, List, take, drop, Bool, true, false, Option, Some, None, IfSome}
 use Rattle.ql_ports.specs.declared.mem_shelf.MemShelf.{MemShelf}
 use Rattle.ql_ports.specs.Faults.{next_count_of}
 use Rattle.ql_ports.specs.Memory.{Files, bytes_under, count_under, bytes_given, is_failing}
@@ -56,3 +56,8 @@ pub record IsFetchedShelf (before after : MemShelf) : Type 0 where
   pub gives : piece_of after ≡ piece_of before
   pub fails : failing_of after ≡ failing_of before
   pub fetch : fetches_of after ≡ next_count_of (fetches_of before)
+
+-- what a fetch may give: bytes of the file, from the offset on
+abbrev pub Gives : List ℕ → MemShelf → ℕ → ℕ → List ℕ → MemShelf → Type 0
+Gives name before at room bytes after =
+    (count : ℕ) × IfSome (held_of before name) (λ whole. bytes ≡ take count (drop at whole))

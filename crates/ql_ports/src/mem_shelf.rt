@@ -50,7 +50,7 @@ impl Shelf for MemShelf {
     ghost use Rattle.std.specs.Prelude.{◌≡◌, ◌≢◌, ◌≤◌, ◌↔◌, ℕ, List, [], length, take, drop, IfOk, IsErr, OnOk, OnErr, IfSome};
     ghost use Rattle.std.specs.Result.{result_ok};
     ghost use Rattle.ql_ports.specs.Faults.{Rose};
-    ghost use Rattle.ql_ports.specs.MemShelf.{held_of, count_of, fetched, IsFetchedShelf, Lacks};
+    ghost use Rattle.ql_ports.specs.MemShelf.{held_of, count_of, fetched, Gives, IsFetchedShelf, Lacks};
 
     ghost held = { held_of };
 
@@ -58,9 +58,13 @@ impl Shelf for MemShelf {
 
     ghost faults = { count_of };
 
+    ghost gives = { Gives };
+
     fn fetch(&mut self, name: &str, at: u64, into: &mut [u8]) -> Result<usize, Failed>
         // As for every shelf.
         ensures within { IfOk result (λ count. count ≤ length into.new) }
+        ensures gave { IfOk result (λ count.
+            Gives name.now self.old at (length into.new) (take count into.new) self.new) }
         ensures bytes { IfOk result (λ count. IfSome (held_of self.old name.now)
             (λ whole. take count into.new ≡ take count (drop at whole))) }
         ensures end { IfOk result (λ count. IfSome (held_of self.old name.now)

@@ -8,8 +8,8 @@ pub struct Failed;
 
 /// Named byte strings that are read piece by piece.
 ///
-/// A shelf in memory reports what it holds and what it lacks. A shelf of real files reports nothing,
-/// and the clauses then say nothing about the bytes that it returns.
+/// A shelf in memory reports what it holds and what it lacks. A shelf of real files reports nothing
+/// of them: of it the clauses say which bytes a call was given, by `gives`, and not where they were.
 pub trait Shelf {
     // The bytes under a name, if the shelf reports them.
     ghost held: { Self → List ℕ → Option (List ℕ) };
@@ -20,11 +20,17 @@ pub trait Shelf {
     // How many faults the fetches of a name have met.
     ghost faults: { Self → List ℕ → ℕ };
 
+    // A fetch of a name, from this shelf, this offset and for a buffer of this size, may give these bytes
+    // and leave that shelf.
+    ghost gives: { List ℕ → Self → ℕ → ℕ → List ℕ → Self → Type 0 };
+
     /// Copies the bytes under `name` from the offset `at` on to the start of `into`, and returns their
     /// count. A count of 0 for a buffer that isn't empty means the end. A name that the shelf doesn't
     /// have is a fault. After `Failed` the contents of `into` are unspecified.
     fn fetch(&mut self, name: &str, at: u64, into: &mut [u8]) -> Result<usize, Failed>
         ensures within { IfOk result (λ count. count ≤ length into.new) }
+        ensures gave { IfOk result (λ count.
+            gives name.now self.old at (length into.new) (take count into.new) self.new) }
         ensures bytes { IfOk result (λ count. IfSome (held self.old name.now)
             (λ whole. take count into.new ≡ take count (drop at whole))) }
         ensures end { IfOk result (λ count. IfSome (held self.old name.now)

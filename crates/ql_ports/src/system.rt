@@ -93,9 +93,13 @@ impl<R: Files + Drop> Shelf for FileShelf<R> {
 
     ghost faults = { λ shelf _. shelf.faults };
 
+    // The bytes are those that the system's read returned, of which nothing else is known.
+    ghost gives = { λ _ _ _ room bytes _. length bytes ≤ room };
+
     fn fetch(&mut self, name: &str, at: u64, into: &mut [u8]) -> Result<usize, Failed>
         // As for every shelf.
         ensures within { IfOk result (λ count. count ≤ length into.new) }
+        ensures gave { IfOk result (λ count. length (take count into.new) ≤ length into.new) }
         ensures bytes { IfOk result (λ count. IfSome unreported
             (λ whole. take count into.new ≡ take count (drop at whole))) }
         ensures end { IfOk result (λ count. IfSome unreported

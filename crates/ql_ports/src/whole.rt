@@ -1,5 +1,6 @@
 ghost use Rattle.std.specs.Prelude.{◌≡◌, ◌<◌, ◌≤◌, ◌⊎◌, ◌↔◌, ℕ, List, length, IfOk, OnOk, OnErr, IsErrOf, IfSome, IsTrue, IsFalse, vec_len};
 ghost use Rattle.ql_ports.specs.Faults.{Rose};
+ghost use Rattle.ql_ports.specs.Reads.{Gave, GaveMore, GaveWhole};
 ghost use Rattle.ql_ports.specs.Whole.{IsPrefix};
 ghost use Rattle.ql_ports.specs.Written.{appended, AppendsPrefix};
 ghost use Rattle.ql_ports.specs.declared.whole.ReadWhy.{ReadWhy};
@@ -54,6 +55,8 @@ pub fn read_whole<S: Shelf>(
 ) -> Result<Vec<u8>, ReadWhy>
     ensures whole { IfOk result (λ bytes. IfSome (S.held shelf.old name.now)
         (λ whole. bytes.items ≡ whole)) }
+    ensures gave { IfOk result (λ bytes.
+        GaveWhole (S.gives name.now) shelf.old bytes.items shelf.new) }
     ensures in_limit { IfOk result (λ bytes. vec_len bytes ≤ limit) }
     ensures failed { IsErrOf result ReadWhy.Failed →
         Rose (S.faults shelf.old name.now) (S.faults shelf.new name.now) }
@@ -61,6 +64,8 @@ pub fn read_whole<S: Shelf>(
         IsErrOf result ReadWhy.Failed ⊎ IsErrOf result ReadWhy.NoMemory }
     ensures too_long { IsErrOf result ReadWhy.TooLong →
         IfSome (S.held shelf.old name.now) (λ whole. limit < length whole) }
+    ensures gave_more { IsErrOf result ReadWhy.TooLong →
+        GaveMore (S.gives name.now) shelf.old limit shelf.new }
     ensures same_contents { (other : List ℕ) → S.held shelf.new other ≡ S.held shelf.old other }
     ensures same_files { (other : List ℕ) → S.lacks shelf.new other ↔ S.lacks shelf.old other }
     ensures counts_stay { (other : List ℕ) → S.faults shelf.old other ≤ S.faults shelf.new other }
@@ -94,6 +99,15 @@ fn read_piece<S: Shelf>(
     ensures reads { OnOk result (IfSome (S.held shelf.old name.now) (IsPrefix bytes.new.items)) }
     ensures end { IfOk result (λ more. IsFalse more →
         IfSome (S.held shelf.old name.now) (λ whole. bytes.new.items ≡ whole)) }
+    ensures gave { IfOk result (λ more. IsTrue more
+        → (first : S) → Gave (S.gives name.now) first bytes.old.items shelf.old
+        → Gave (S.gives name.now) first bytes.new.items shelf.new) }
+    ensures gave_whole { IfOk result (λ more. IsFalse more
+        → (first : S) → Gave (S.gives name.now) first bytes.old.items shelf.old
+        → GaveWhole (S.gives name.now) first bytes.new.items shelf.new) }
+    ensures gave_more { IsErrOf result ReadWhy.TooLong
+        → (first : S) → Gave (S.gives name.now) first bytes.old.items shelf.old
+        → GaveMore (S.gives name.now) first limit shelf.new }
     ensures failed { IsErrOf result ReadWhy.Failed →
         Rose (S.faults shelf.old name.now) (S.faults shelf.new name.now) }
     ensures lacking { S.lacks shelf.old name.now → IsErrOf result ReadWhy.Failed }

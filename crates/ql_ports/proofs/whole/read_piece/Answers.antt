@@ -1,5 +1,6 @@
-use Rattle.std.proofs.Common.{◌≡◌, length, rules}
+use Rattle.std.proofs.Common.{◌≡◌, ◌<◌, ◌+◌, length, arith, rules}
 use Rattle.ql_ports.proofs.whole.read_piece.Goals as goal
+use Rattle.ql_ports.proofs.Fetched.{one_more, one_more_above}
 use Rattle.ql_ports.proofs.Prefixes.{IfSome-front-append}
 
 pub returns-clause-reads : goal.returns-clause-reads
@@ -7,3 +8,16 @@ returns-clause-reads g c =
     let seam : c.len.result ≡ length c.args.bytes.now.items = search rules in
     rw c.in_ok-extend_from_slice.ensures.items
     (IfSome-front-append _ _ _ _ _ c.requires.prefix seam c.in_ok-count.ensures.within c.in_ok-count.ensures.bytes)
+
+pub returns-clause-gave : goal.returns-clause-gave
+returns-clause-gave g c = λ is first gave.
+    let seam : c.len.result ≡ length c.args.bytes.now.items = search rules in
+    rw c.in_ok-extend_from_slice.ensures.items
+    (one_more (g.S.Shelf.gives c.args.name.now) first c.args.shelf.now c.fetch.new.self c.args.bytes.now.items c.len.result _ c.fetch.new.into c.in_ok-count.count gave seam c.in_ok-count.ensures.gave)
+
+pub returns-then-count-limit-clause-gave_more : goal.returns-then-count-limit-clause-gave_more
+returns-then-count-limit-clause-gave_more g c = λ is first gave.
+    let seam : c.len.result ≡ length c.args.bytes.now.items = search rules in
+    let above : c.args.limit < length c.args.bytes.now.items + c.in_ok-count.count = search rules in
+    one_more_above (g.S.Shelf.gives c.args.name.now) first c.args.shelf.now c.fetch.new.self c.args.bytes.now.items c.len.result _ c.fetch.new.into c.in_ok-count.count c.args.limit gave seam
+    c.in_ok-count.ensures.gave c.in_ok-count.ensures.within above

@@ -12,6 +12,9 @@ returns-clause-bytes c =
     bytes_under-at _ _ c.place_named-place.result c.index-2.result.now at inside c.index-2.ensures in
     rw is (search rules)
 
+pub returns-clause-gave : goal.returns-clause-gave
+returns-clause-gave c = (c.copy_piece.result, returns-clause-bytes c)
+
 pub returns-clause-end : goal.returns-clause-end
 returns-clause-end c =
     let at : c.place_named-place.result ≡ place_of c.args.self.now.files.items c.args.name.now = search rules in
