@@ -1,7 +1,7 @@
 use ql_app::{Status, quelea};
 use ql_base::{NoMemory, push_bytes, push_number};
 use ql_ports::{MemShelf, MemSink};
-use ql_tables::number;
+use ql_test_inputs::number;
 use std::alloc::Global;
 
 // How many bytes a text may have.

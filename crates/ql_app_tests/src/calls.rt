@@ -2,7 +2,7 @@ use crate::asking::{file, report, words_of};
 use ql_base::{NoMemory, push_bytes};
 use ql_claim::{answer, classify_and_verify, prove_and_check};
 use ql_ports::{MemShelf, MemSink};
-use ql_tables::check_table;
+use ql_test_inputs::check_table;
 use std::alloc::Global;
 use std::test::Fail;
 

@@ -4,7 +4,7 @@ use crate::asking::{file, report, words_of};
 use ql_app::quelea;
 use ql_base::NoMemory;
 use ql_ports::{MemShelf, MemSink};
-use ql_tables::{check_table, number};
+use ql_test_inputs::{check_table, number};
 use std::alloc::Global;
 use std::test::Fail;
 

@@ -1,7 +1,7 @@
 use crate::asking::{BY_BYTES, Outside, answer_in_common, answer_outside, report, words_of};
 use ql_app::Status;
 use ql_base::{NoMemory, push_bytes, push_number};
-use ql_tables::{BANK, check_table};
+use ql_test_inputs::{BANK, check_table};
 use std::alloc::Global;
 use std::test::Fail;
 

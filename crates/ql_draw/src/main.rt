@@ -1,8 +1,17 @@
-// The program `draw`: passes the command line, the system's files and standard output to its top call. It prints
-// nothing itself, and its exit status is the top call's.
+// The program `draw`: from its arguments and the files that they name to one picture in SVG. It prints nothing but what
+// its top call writes, and its exit status is that call's.
+// The one contract: for all arguments, all files and whatever the outside does, one text is written that the outcome
+// allows; a picture is the text of a value in which each effect is drawn once, in its column and its row.
 #![tactic(auto)]
 
-use ql_drawing::draw;
+mod drawing;
+mod help;
+mod outcome;
+mod program;
+mod sheet;
+mod words;
+
+use crate::program::draw;
 use ql_ports::{FileShelf, StdSink};
 use ql_reply::{arguments, exit_number};
 use std::process::ExitCode;

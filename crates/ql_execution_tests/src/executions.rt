@@ -1,6 +1,6 @@
 use ql_base::{DeclId, EffId, NoMemory, ObjId, OpId, RunId, SessId, push_bytes, push_number};
 use ql_exec::{Draft, Effect, ExecFault, Execution, Member, Payload};
-use ql_tables::{check_table, field, id_set_of, number, spelled, with_number};
+use ql_test_inputs::{check_table, field, id_set_of, number, spelled, with_number};
 use ql_value::{Value, Values};
 use std::alloc::Global;
 use std::test::Fail;

@@ -2,7 +2,7 @@ use ql_base::{NoMemory, Word, push_bytes};
 use ql_eval::{Env, eval, try_eval};
 use ql_lang::Expr;
 use ql_parse::parse_program;
-use ql_tables::{check_table, spelled};
+use ql_test_inputs::{check_table, spelled};
 use ql_value::{Value, order, parse_value, print_value};
 use std::alloc::Global;
 use std::cmp::Ordering;

@@ -1,8 +1,7 @@
 use ql_base::{NoMemory, push_bytes, push_number};
 use ql_exec::{Effect, Member, Payload};
 use ql_execution_files::parse_execution;
-use ql_tables::{check_table, spelled};
-use ql_test_inputs::declared;
+use ql_test_inputs::{check_table, declared, spelled};
 use ql_value::{Values, print_value};
 use std::alloc::Global;
 use std::test::Fail;

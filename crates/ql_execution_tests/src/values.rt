@@ -1,5 +1,5 @@
 use ql_base::{NoMemory, push_bytes, push_number};
-use ql_tables::{check_table, spelled};
+use ql_test_inputs::{check_table, spelled};
 use ql_value::{ValueFault, order, parse_value, print_value};
 use std::alloc::Global;
 use std::cmp::Ordering;

@@ -1,6 +1,6 @@
 use ql_atoms::{Atom, PairKind, Shape, atom_of, number as number_of_atom};
 use ql_base::{NoMemory, push_bytes, push_number};
-use ql_tables::{check_table, number};
+use ql_test_inputs::{check_table, number};
 use std::alloc::Global;
 use std::test::Fail;
 

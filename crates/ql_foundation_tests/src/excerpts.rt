@@ -1,6 +1,6 @@
 use ql_base::NoMemory;
-use ql_excerpt::{File, Spot, push_fault};
-use ql_tables::{check_table, number};
+use ql_notes::{File, Spot, push_fault};
+use ql_test_inputs::{check_table, number};
 use std::alloc::Global;
 use std::test::Fail;
 

@@ -1,5 +1,5 @@
 use ql_base::{Names, NoMemory, push_bytes, push_number};
-use ql_tables::{check_table, field, id_set_of, number};
+use ql_test_inputs::{check_table, field, id_set_of, number};
 use std::alloc::Global;
 use std::test::Fail;
 

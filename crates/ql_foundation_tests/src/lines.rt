@@ -1,6 +1,6 @@
 use ql_base::{NoMemory, push_bytes, push_number};
 use ql_lines::{Lines, after_name, after_number, after_word, ascending_ids, first_field};
-use ql_tables::check_table;
+use ql_test_inputs::check_table;
 use std::alloc::Global;
 use std::test::Fail;
 

@@ -1,6 +1,6 @@
 use ql_base::{NoMemory, push_bytes};
 use ql_ports::{FileShelf, MemShelf, MemSink, ReadWhy, read_whole, write_whole};
-use ql_tables::{check_table, field, number};
+use ql_test_inputs::{check_table, field, number};
 use std::alloc::Global;
 use std::test::Fail;
 

@@ -1,16 +1,22 @@
 -- Clause lists that grow by one group of clauses after another.
 use Rattle.std.proofs.lemmas.List.{map_more, map-append, take_more_set}
+use Rattle.std.proofs.lemmas.List.Elements.{All-weaker}
 use Rattle.std.proofs.Math.ListN.{set}
-use Rattle.std.proofs.Common.{◌≡◌, ℕ, zero, suc, ◌+◌, ◌-◌, ◌<◌, arith, length, get_or, take, map, List, [], ◌∷◌, ◌++◌, refl, sym, ◌∙◌, ap, append-nil, append_assoc, add-one}
+use Rattle.std.proofs.Common.{◌≡◌, ℕ, zero, suc, ◌+◌, ◌-◌, ◌<◌, ◌≤◌, arith, length, get_or, take, map, List, [], ◌∷◌, ◌++◌, refl, sym, ◌∙◌, ap, append-nil, append_assoc, add-one}
 use Rattle.ql_atoms.specs.Atoms.{Size}
 use Rattle.ql_cnf.specs.declared.lit.Lit.{Lit}
 use Rattle.ql_cnf.specs.Circuits.{Circuit, Input, Both, clauses_of}
+use Rattle.ql_cnf.specs.Satisfaction.{AreInRange}
 use Rattle.ql_cnf.proofs.CircuitLemmas.{clauses_of-append}
 use Rattle.ql_ground.specs.Bodies.{grouped}
 use Rattle.ql_typing.specs.WellFormed.{AreBelow}
 use Rattle.ql_ground.specs.Rules.{Rule}
 use Rattle.ql_base.specs.Ranges.{upto}
 use Rattle.ql_ground.specs.Ground.{choices, instances, all_instances}
+
+-- literals over the first of the variables
+pub in_range_more : (n m : ℕ) (c : List Lit) → n ≤ m → AreInRange n c → AreInRange m c
+in_range_more n m c l h = All-weaker (λ x. (1 ≤ x.var) × (x.var ≤ n)) (λ x. (1 ≤ x.var) × (x.var ≤ m)) (λ x p. (p.0, omega (arith, l, p.1))) c h
 
 pub then : (old mid new a b : List (List Lit)) → mid ≡ old ++ clauses_of a → new ≡ mid ++ clauses_of b → new ≡ old ++ clauses_of (a ++ b)
 then old mid new a b h g =

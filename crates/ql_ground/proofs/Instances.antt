@@ -12,6 +12,7 @@ use Rattle.ql_cnf.specs.Circuits.{yes, no}
 use Rattle.ql_cnf.specs.Satisfaction.{variable_value, literal_true, clause_true}
 use Rattle.ql_ground.specs.Rules.{Rule}
 use Rattle.ql_ground.specs.Ground.{implication, chosen, at, instances}
+use Rattle.ql_ground.specs.Parts.{instance}
 use Rattle.ql_ground.proofs.Upto.{ForEach, AllBelow, each-at, choices-all}
 use Rattle.ql_ground.proofs.ReadOff.{ReadsOff}
 
@@ -111,13 +112,17 @@ module _ (assigned : List Bool) (s : Size) (t : Atom → Bool) (reads : ReadsOff
   some-constant [] places pos e b = absurd (omega arith)
   some-constant (x ∷ xs) places pos e b = omega (arith, b.0)
 
+  -- a rule that is true at a choice has a true clause there
+  pub instance-true : (r : Rule) (constants : List ℕ) → 0 < s.constants → AllBelow s.constants constants → OpsFit s r.hypotheses → OpsFit s r.conclusions → implied (map t (map (at s constants) r.hypotheses)) (map t (map (at s constants) r.conclusions)) ≡ true → list_all (clause_true assigned) (instance s r constants) ≡ true
+  instance-true r constants some b f g h =
+      one_clause (implication s (map (at s constants) r.hypotheses) (map (at s constants) r.conclusions))
+      (implication-true (map (at s constants) r.hypotheses) (map (at s constants) r.conclusions)
+      (all-at-fit constants r.hypotheses some b f) (all-at-fit constants r.conclusions some b g) h)
+
   -- a rule that is true at every choice has true instances
   pub instances-true : (r : Rule) → 0 < r.places → OpsFit s r.hypotheses → OpsFit s r.conclusions → ForEach s.constants r.places (λ constants. implied (map t (map (at s constants) r.hypotheses)) (map t (map (at s constants) r.conclusions)) ≡ true) → list_all (clause_true assigned) (instances s r) ≡ true
   instances-true r pos f g h =
-      choices-all (clause_true assigned) s.constants r.places (λ constants. implication s (map (at s constants) r.hypotheses) (map (at s constants) r.conclusions) ∷ [])
+      choices-all (clause_true assigned) s.constants r.places (instance s r)
       (λ constants e b.
-      let some : 0 < s.constants = some-constant constants r.places pos e b in
-      one_clause (implication s (map (at s constants) r.hypotheses) (map (at s constants) r.conclusions))
-      (implication-true (map (at s constants) r.hypotheses) (map (at s constants) r.conclusions)
-      (all-at-fit constants r.hypotheses some b f) (all-at-fit constants r.conclusions some b g)
-      (each-at s.constants r.places (λ chosen. implied (map t (map (at s chosen) r.hypotheses)) (map t (map (at s chosen) r.conclusions)) ≡ true) h constants e b)))
+      instance-true r constants (some-constant constants r.places pos e b) b f g
+      (each-at s.constants r.places (λ chosen. implied (map t (map (at s chosen) r.hypotheses)) (map t (map (at s chosen) r.conclusions)) ≡ true) h constants e b))

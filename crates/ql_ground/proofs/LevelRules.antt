@@ -22,7 +22,7 @@ use Rattle.ql_ground.proofs.ReadOff.{ReadsOff}
 use Rattle.ql_ground.proofs.Instances.{implied-from, instances-true}
 use Rattle.ql_ground.proofs.Axioms.{atom_true}
 
-gives : (a c : Bool) → (not a || c) ≡ true → a ≡ true → c ≡ true
+pub gives : (a c : Bool) → (not a || c) ≡ true → a ≡ true → c ≡ true
 gives true c h e = h
 gives false c h e = absurd (both_ways false refl e)
 

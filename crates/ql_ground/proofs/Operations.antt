@@ -28,12 +28,12 @@ AllFit-append : (s : Size) (p q : List Atom) → AllFit s p → AllFit s q → A
 AllFit-append s [] q f g = g
 AllFit-append s (a ∷ p) q f g = (f.0, AllFit-append s p q f.1 g)
 
-AllFit-upto : (s : Size) (n : ℕ) (f : ℕ → List Atom) → ((i : ℕ) → i < n → AllFit s (f i)) → AllFit s (upto n f)
+pub AllFit-upto : (s : Size) (n : ℕ) (f : ℕ → List Atom) → ((i : ℕ) → i < n → AllFit s (f i)) → AllFit s (upto n f)
 AllFit-upto s zero f h = tt
 AllFit-upto s (suc n) f h = AllFit-append s (upto n f) (f n) (AllFit-upto s n f (λ i l. h i (omega arith))) (h n (omega arith))
 
 -- some of these is true
-some_from : (t : Atom → Bool) (atoms : List Atom) → list_any t atoms ≡ true → SomeTrue (map t atoms)
+pub some_from : (t : Atom → Bool) (atoms : List Atom) → list_any t atoms ≡ true → SomeTrue (map t atoms)
 some_from t [] h = absurd (false≢true h)
 some_from t (a ∷ atoms) h = elim (or_cases (t a) (list_any t atoms) h) [ inl here ↦ inl here | inr more ↦ inr (some_from t atoms more) ]
 

@@ -1,4 +1,5 @@
--- A problem that no assignment satisfies gives the implication: else an assignment could be read off.
+-- Where a level holds and a contract is false, an assignment that satisfies the problem is read off; so a problem
+-- that no assignment satisfies gives the implication.
 use Rattle.std.proofs.Common.{◌≡◌, ℕ, zero, suc, ◌+◌, ◌-◌, ◌<◌, ◌≤◌, Bool, true, false, ◌==◌, inl, inr, List, [], ◌∷◌, ◌++◌, length, Some, refl, sym, subst, ◌∙◌, ap, arith, append-nil}
 use Rattle.std.proofs.lemmas.Bool.{cases_Bool, cases_lt, both_ways}
 use Rattle.std.proofs.lemmas.List.{get_or_append_left, get_or-append-add}
@@ -9,7 +10,7 @@ use Rattle.ql_atoms.specs.declared.atoms.Atom.TheVariants.{Is}
 use Rattle.ql_atoms.specs.Atoms.{Size, count_of}
 use Rattle.ql_cnf.specs.declared.lit.Lit.{Lit}
 use Rattle.ql_cnf.specs.Circuits.{circuit_true, InputsInRange, gates, gate_values, denying, clauses_of}
-use Rattle.ql_cnf.specs.Satisfaction.{ClauseList, IsUnsatisfiable, clause_true}
+use Rattle.ql_cnf.specs.Satisfaction.{ClauseList, Satisfies, IsUnsatisfiable, clause_true}
 use Rattle.ql_cnf.proofs.CircuitLaws.{all_true-clauses_of, extends}
 use Rattle.ql_lang.specs.Formulas.{Resolved}
 use Rattle.ql_lang.specs.declared.formula.OpChoice.{OpChoice}
@@ -37,9 +38,15 @@ use Rattle.ql_ground.proofs.LevelRules.{level-true, txn_level-true}
 use Rattle.ql_ground.proofs.Bodies.{body-true}
 use Rattle.ql_ground.proofs.Inputs.{body-in}
 
+-- an assignment that satisfies the problem, in which each atom has its truth value
+pub record Assignment (p : ClauseList) (s : Size) (t : Atom → Bool) : Type 0 where
+  pub values : List Bool
+  pub satisfies : Satisfies values p
+  pub reads : ReadsOff values s t
+
 -- lists that are true in the assignment that is read off, and a body that is false in it
-refutes : (s : Size) (t : Atom → Bool) (lists : List (List Lit)) (f : Resolved) → InputsInRange (count_of s) (body_circuit s f.body) → circuit_true (read_off s t) (body_circuit s f.body) ≡ false → ((more : List Bool) → list_all (clause_true (read_off s t ++ more)) lists ≡ true) → IsUnsatisfiable (problem_of s lists f) → ⊥
-refutes s t lists f inputs no_value holds none =
+satisfied : (s : Size) (t : Atom → Bool) (lists : List (List Lit)) (f : Resolved) → InputsInRange (count_of s) (body_circuit s f.body) → circuit_true (read_off s t) (body_circuit s f.body) ≡ false → ((more : List Bool) → list_all (clause_true (read_off s t ++ more)) lists ≡ true) → Assignment (problem_of s lists f) s t
+satisfied s t lists f inputs no_value holds =
     let g = body_circuit s f.body in
     let k : ℕ = count_of s in
     let v : List Bool = read_off s t in
@@ -47,7 +54,11 @@ refutes s t lists f inputs no_value holds none =
     let new : ClauseList = record { variables = k + gates g; clauses = clauses_of (denying k g) } in
     let last = extends old new g (λ i d l. absurd (omega arith)) inputs refl refl v (length-read_off s t, refl) no_value in
     let w : List Bool = v ++ gate_values v g in
-    none w (last.0, all_true-clauses_of w (lists ++ denying k g) ∙ all-append (clause_true w) lists (denying k g) (holds (gate_values v g)) (sym (all_true-clauses_of w (denying k g)) ∙ last.1))
+    record {
+      values = w;
+      satisfies = (last.0, all_true-clauses_of w (lists ++ denying k g) ∙ all-append (clause_true w) lists (denying k g) (holds (gate_values v g)) (sym (all_true-clauses_of w (denying k g)) ∙ last.1));
+      reads = reads_off s t (gate_values v g);
+    }
 
 chosen-length : (x : List Effect) (vars : List OpChoice) (places : List ℕ) → Chosen x vars places → length places ≡ length vars
 chosen-length x [] [] c = refl
@@ -59,7 +70,7 @@ range-effect : (x : List Effect) (choice : OpChoice) (p : ℕ) → in_range x ch
 range-effect x Any p h = let f = one-found (λ e. true) (effect_at x p) h in (f.effect, f.effect_is)
 range-effect x (OneOf ops) p h = let f = one-found (λ e. list_any (λ o. e.op == o) ops) (effect_at x p) h in (f.effect, f.effect_is)
 
-chosen-effect : (x : List Effect) (vars : List OpChoice) (places : List ℕ) → Chosen x vars places → (i : ℕ) → i < length vars → (e : Effect) × (effect_at x (slice_index places i) ≡ Some e)
+pub chosen-effect : (x : List Effect) (vars : List OpChoice) (places : List ℕ) → Chosen x vars places → (i : ℕ) → i < length vars → (e : Effect) × (effect_at x (slice_index places i) ≡ Some e)
 chosen-effect x [] places c i l = absurd (omega arith)
 chosen-effect x (choice ∷ vars) [] c i l = absurd c
 chosen-effect x (choice ∷ vars) (p ∷ places) c zero l = range-effect x choice p c.0
@@ -113,30 +124,51 @@ txn_terms n places s e (Var v) h = (h, refl)
 reads_off-alone : (s : Size) (t : Atom → Bool) → ReadsOff (read_off s t) s t
 reads_off-alone s t = subst (λ a. ReadsOff a s t) (append-nil (read_off s t)) (reads_off s t [])
 
--- An operation's problem that no assignment satisfies gives the implication, in every execution of any length.
-pub op_sound : (types : List ℕ) (o : ℕ) (level : Level) (f : Resolved) → IsContractOf types true f → IsUnsatisfiable (op_problem types o level f) → Implies types o level f
-op_sound types o level f contract unsatisfiable x law fits cur is_cur holds places chosen =
+-- The constants of an operation's problem are the effects that are chosen for the variables, and the current
+-- effect as the last one.
+pub record Constants (x : List Effect) (n : ℕ) (places : List ℕ) (cur : ℕ) : Type 0 where
+  pub same : (i : ℕ) → i < n → slice_index (places ++ cur ∷ []) i ≡ slice_index places i
+  pub last : slice_index (places ++ cur ∷ []) (suc n - 1) ≡ cur
+  pub there : (i : ℕ) → i < suc n → (e : Effect) × (effect_at x (slice_index (places ++ cur ∷ []) i) ≡ Some e)
+
+pub op_constants : (x : List Effect) (vars : List OpChoice) (places : List ℕ) (o cur : ℕ) → Chosen x vars places → is_op x o cur ≡ true → Constants x (length vars) places cur
+op_constants x vars places o cur chosen is_cur =
+    let n : ℕ = length vars in
+    let effects : List ℕ = places ++ cur ∷ [] in
+    let long : length places ≡ n = chosen-length x vars places chosen in
+    let same : (i : ℕ) → i < n → slice_index effects i ≡ slice_index places i = λ i l. get_or_append_left places (cur ∷ []) 0 i (omega arith) in
+    let end : slice_index effects n ≡ cur = ap (λ k. slice_index effects k) (omega arith) ∙ get_or-append-add places (cur ∷ []) 0 0 in
+    let is_effect = one-found (λ e. e.op == o) (effect_at x cur) is_cur in
+    record {
+      same = same;
+      last = ap (λ k. slice_index effects k) (omega arith) ∙ end;
+      there = λ i l. elim (cases_lt i n) [
+        | inl less ↦ let e = chosen-effect x vars places chosen i less in (e.0, ap (λ p. effect_at x p) (same i less) ∙ e.1)
+        | inr more ↦ (is_effect.effect, ap (λ k. effect_at x (slice_index effects k)) (omega arith) ∙ ap (λ p. effect_at x p) end ∙ is_effect.effect_is)
+      ];
+    }
+
+-- Where the level's guarantee holds at an effect of the operation and the contract is false there, an assignment
+-- satisfies the operation's problem.
+pub op_satisfied : (types : List ℕ) (o : ℕ) (level : Level) (f : Resolved) → IsContractOf types true f → (x : List Effect) → IsExecution x → FitsProgram types x → (cur : ℕ) → is_op x o cur ≡ true → Holds x (formula_of level) cur → (places : List ℕ) → Chosen x f.vars places → statement_true x none places cur f.body ≡ false → Assignment (op_problem types o level f) (op_size types f) (atom_true x none (places ++ cur ∷ []))
+op_satisfied types o level f contract x law fits cur is_cur holds places chosen broken =
     let n : ℕ = length f.vars in
     let s : Size = op_size types f in
     let effects : List ℕ = places ++ cur ∷ [] in
     let t : Atom → Bool = λ a. atom_true x none effects a in
-    let long : length places ≡ n = chosen-length x f.vars places chosen in
-    let same : (i : ℕ) → i < n → slice_index effects i ≡ slice_index places i = λ i l. get_or_append_left places (cur ∷ []) 0 i (omega arith) in
-    let end : slice_index effects n ≡ cur = ap (λ k. slice_index effects k) (omega arith) ∙ get_or-append-add places (cur ∷ []) 0 0 in
-    let last : slice_index effects (suc n - 1) ≡ cur = ap (λ k. slice_index effects k) (omega arith) ∙ end in
-    let is_effect = one-found (λ e. e.op == o) (effect_at x cur) is_cur in
-    let there : (i : ℕ) → i < suc n → (e : Effect) × (effect_at x (slice_index effects i) ≡ Some e) = λ i l. elim (cases_lt i n) [
-      | inl less ↦ let e = chosen-effect x f.vars places chosen i less in (e.0, ap (λ p. effect_at x p) (same i less) ∙ e.1)
-      | inr more ↦ (is_effect.effect, ap (λ k. effect_at x (slice_index effects k)) (omega arith) ∙ ap (λ p. effect_at x p) end ∙ is_effect.effect_is)
-    ] in
-    let terms : (u : Term) → IsTermOf n true u → (constant_of s u < suc n) × (slice_index effects (constant_of s u) ≡ place_of places cur u) = op_terms n effects places cur s refl last same in
+    let k = op_constants x f.vars places o cur chosen is_cur in
+    let terms : (u : Term) → IsTermOf n true u → (constant_of s u < suc n) × (slice_index effects (constant_of s u) ≡ place_of places cur u) = op_terms n effects places cur s refl k.last k.same in
     let inputs : InputsInRange (count_of s) (body_circuit s f.body) = body-in s n true (λ u h. (terms u h).0) f.body contract.body in
     let value : circuit_true (read_off s t) (body_circuit s f.body) ≡ statement_true x none places cur f.body = body-true x none (none-closed x) effects s (read_off s t) (reads_off-alone s t) n true places cur terms f.body contract.body in
+    satisfied s t (op_ground types o level f) f inputs (value ∙ broken)
+    (λ more. op_ground-true x law types fits effects s refl k.there o level cur (omega arith) k.last is_cur holds f.vars places contract.vars chosen (omega arith) k.same (read_off s t ++ more) (reads_off s t more))
+
+-- An operation's problem that no assignment satisfies gives the implication, in every execution of any length.
+pub op_sound : (types : List ℕ) (o : ℕ) (level : Level) (f : Resolved) → IsContractOf types true f → IsUnsatisfiable (op_problem types o level f) → Implies types o level f
+op_sound types o level f contract unsatisfiable x law fits cur is_cur holds places chosen =
     elim (cases_Bool (statement_true x none places cur f.body)) [
       | inl met ↦ met
-      | inr broken ↦ absurd (refutes s t (op_ground types o level f) f inputs (value ∙ broken)
-          (λ more. op_ground-true x law types fits effects s refl there o level cur (omega arith) last is_cur holds f.vars places contract.vars chosen (omega arith) same (read_off s t ++ more) (reads_off s t more))
-          unsatisfiable)
+      | inr broken ↦ let a = op_satisfied types o level f contract x law fits cur is_cur holds places chosen broken in absurd (unsatisfiable a.values a.satisfies)
     ]
 
 -- all groups but the body's, for a transaction
@@ -172,9 +204,10 @@ txn_ground-true x law types fits effects s sized there level run holds vars ops 
     (txn_level-true x run effects s there assigned reads level holds))
     (variables-true x types fits now effects s sized there assigned reads vars effects 0 ops chosen (omega arith) (λ i l. ap (λ k. slice_index effects k) (omega arith)))
 
--- A transaction's problem that no assignment satisfies gives the implication, in every execution of any length.
-pub txn_sound : (types : List ℕ) (level : TxnLevel) (f : Resolved) → IsContractOf types false f → IsUnsatisfiable (txn_problem types level f) → ImpliesTxn types level f
-txn_sound types level f contract unsatisfiable x law fits run holds places chosen =
+-- Where the level's guarantee holds of a begun transaction and the contract is false of it, an assignment satisfies
+-- the transaction's problem.
+pub txn_satisfied : (types : List ℕ) (level : TxnLevel) (f : Resolved) → IsContractOf types false f → (x : List Effect) → IsExecution x → FitsProgram types x → (run : ℕ) → HoldsTxn x (txn_formula_of level) run → (places : List ℕ) → Chosen x f.vars places → statement_true x (inside x run) places 0 f.body ≡ false → Assignment (txn_problem types level f) (txn_size types f) (atom_true x (inside x run) places)
+txn_satisfied types level f contract x law fits run holds places chosen broken =
     let n : ℕ = length f.vars in
     let s : Size = txn_size types f in
     let t : Atom → Bool = λ a. atom_true x (inside x run) places a in
@@ -182,9 +215,13 @@ txn_sound types level f contract unsatisfiable x law fits run holds places chose
     let terms : (u : Term) → IsTermOf n false u → (constant_of s u < n) × (slice_index places (constant_of s u) ≡ place_of places 0 u) = txn_terms n places s refl in
     let inputs : InputsInRange (count_of s) (body_circuit s f.body) = body-in s n false (λ u h. (terms u h).0) f.body contract.body in
     let value : circuit_true (read_off s t) (body_circuit s f.body) ≡ statement_true x (inside x run) places 0 f.body = body-true x (inside x run) (inside-closed x run) places s (read_off s t) (reads_off-alone s t) n false places 0 terms f.body contract.body in
+    satisfied s t (txn_ground types level f) f inputs (value ∙ broken)
+    (λ more. txn_ground-true x law types fits places s refl there level run holds f.vars contract.vars chosen (omega arith) (read_off s t ++ more) (reads_off s t more))
+
+-- A transaction's problem that no assignment satisfies gives the implication, in every execution of any length.
+pub txn_sound : (types : List ℕ) (level : TxnLevel) (f : Resolved) → IsContractOf types false f → IsUnsatisfiable (txn_problem types level f) → ImpliesTxn types level f
+txn_sound types level f contract unsatisfiable x law fits run holds places chosen =
     elim (cases_Bool (statement_true x (inside x run) places 0 f.body)) [
       | inl met ↦ met
-      | inr broken ↦ absurd (refutes s t (txn_ground types level f) f inputs (value ∙ broken)
-          (λ more. txn_ground-true x law types fits places s refl there level run holds f.vars contract.vars chosen (omega arith) (read_off s t ++ more) (reads_off s t more))
-          unsatisfiable)
+      | inr broken ↦ let a = txn_satisfied types level f contract x law fits run holds places chosen broken in absurd (unsatisfiable a.values a.satisfies)
     ]

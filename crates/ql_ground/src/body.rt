@@ -8,7 +8,7 @@ ghost use Rattle.ql_ground.specs.Bodies as circuits;
 ghost use Rattle.ql_ground.specs.Bodies.{holds, named_circuit, relation_circuit, all_of, txn_circuit, body_circuit};
 ghost use Rattle.ql_ground.specs.Parts.{IsConstant, OverConstants, member_literals, same_literals, other_literals};
 
-use crate::literal::literal;
+use crate::clause::literal;
 use ql_atoms::{Atom, PairKind, Shape};
 use ql_base::NoMemory;
 use ql_cnf::{Ground, Lit};

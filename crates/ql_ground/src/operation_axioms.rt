@@ -11,7 +11,7 @@ ghost use Rattle.ql_ground.specs.Bodies.{current_effect};
 ghost use Rattle.ql_ground.specs.Parts.{not_both, not_another, one_operation_of, other_type, other_types, one_type_between, one_type_from};
 ghost use Rattle.ql_typing.specs.WellFormed.{AreBelow, AreChoicesOf};
 
-use crate::literal::{add_clause, literal};
+use crate::clause::{add_clause, literal};
 use crate::rule::{I, J, Rule, add_rule};
 use ql_atoms::{Atom, PairKind, Shape};
 use ql_base::{NoMemory, OpId};

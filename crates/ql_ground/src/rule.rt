@@ -7,18 +7,18 @@ ghost use Rattle.ql_ground.specs.Ground.{at, choices, instances};
 ghost use Rattle.ql_ground.specs.Ground as groups;
 ghost use Rattle.ql_ground.specs.Parts.{IsRuleAtom, literal_of, rule_of, instance};
 
-use crate::literal::{add_clause, literal};
+use crate::clause::{add_clause, literal};
 use ql_atoms::{Atom, Shape};
 use ql_base::NoMemory;
 use ql_cnf::{Clauses, Lit};
 use std::alloc::Global;
 
 /// The variables of rules.
-pub(crate) const I: u32 = 0;
+pub const I: u32 = 0;
 
-pub(crate) const J: u32 = 1;
+pub const J: u32 = 1;
 
-pub(crate) const K: u32 = 2;
+pub const K: u32 = 2;
 
 pub(crate) const L: u32 = 3;
 
@@ -31,7 +31,7 @@ const PLACES: usize = 4;
 /// For every choice of constants for the variables, if all hypotheses hold, one of the conclusions does.
 /// The atoms are over the variables, numbered from 0, and over the current effect, `CUR`.
 #[derive(Clone, Copy)]
-pub(crate) struct Rule<'a> {
+pub struct Rule<'a> {
     pub places: u32,
     pub hypotheses: &'a [Atom],
     pub conclusions: &'a [Atom],
@@ -42,7 +42,7 @@ impl<'a> Rule<'a> {
     ghost use Rattle.ql_ground.specs.Parts.{rule_of};
 
     /// The rule with these hypotheses and conclusions, over this many variables.
-    pub(crate) fn over(places: u32, hypotheses: &'a [Atom], conclusions: &'a [Atom]) -> Rule<'a>
+    pub fn over(places: u32, hypotheses: &'a [Atom], conclusions: &'a [Atom]) -> Rule<'a>
         ensures { rule_of result
             ≡ record {
               places = places;
@@ -112,8 +112,9 @@ fn push_literals(
     Ok(())
 }
 
-// Appends the clause of a rule at the chosen constants.
-fn add_instance(
+/// Appends the clause of a rule at the chosen constants, one for each of its variables. What `lits` holds doesn't
+/// matter; it is given so that several calls use the same memory.
+pub fn add_instance(
     r: &Rule<'_>,
     chosen: &[u32],
     s: Shape,
@@ -124,7 +125,7 @@ fn add_instance(
     requires chosen { All (λ k. k < s.constants) chosen.now }
     requires hypotheses { All (IsRuleAtom (size_of s)) r.now.hypotheses.now }
     requires conclusions { All (IsRuleAtom (size_of s)) r.now.conclusions.now }
-    requires variables { c.old.variables ≡ count_of (size_of s) }
+    requires variables { count_of (size_of s) ≤ c.old.variables }
     ensures variables { c.new.variables ≡ c.old.variables }
     ensures clauses { OnOk result
         (c.new.clauses ≡ c.old.clauses
@@ -151,7 +152,7 @@ fn add_choices(
     requires chosen { All (λ k. k < s.constants) (take depth chosen) }
     requires hypotheses { All (IsRuleAtom (size_of s)) r.now.hypotheses.now }
     requires conclusions { All (IsRuleAtom (size_of s)) r.now.conclusions.now }
-    requires variables { c.old.variables ≡ count_of (size_of s) }
+    requires variables { count_of (size_of s) ≤ c.old.variables }
     ensures variables { c.new.variables ≡ c.old.variables }
     ensures clauses { OnOk result
         (c.new.clauses ≡ c.old.clauses
@@ -169,17 +170,13 @@ fn add_choices(
     Ok(())
 }
 
-// Appends the clauses of a rule.
-pub(crate) fn add_rule(
-    alloc: Global,
-    r: &Rule<'_>,
-    s: Shape,
-    c: &mut Clauses,
-) -> Result<(), NoMemory>
+/// Appends the clauses of a rule, for every choice of constants. The list may have variables past the atoms of the
+/// shape, as that of a goal has for its contract's body.
+pub fn add_rule(alloc: Global, r: &Rule<'_>, s: Shape, c: &mut Clauses) -> Result<(), NoMemory>
     requires places { (0 < r.now.places) × (r.now.places ≤ 4) }
     requires hypotheses { All (IsRuleAtom (size_of s)) r.now.hypotheses.now }
     requires conclusions { All (IsRuleAtom (size_of s)) r.now.conclusions.now }
-    requires variables { c.old.variables ≡ count_of (size_of s) }
+    requires variables { count_of (size_of s) ≤ c.old.variables }
     ensures variables { c.new.variables ≡ c.old.variables }
     ensures clauses { OnOk result
         (c.new.clauses ≡ c.old.clauses ++ clauses_of (instances (size_of s) (rule_of r.now))) }

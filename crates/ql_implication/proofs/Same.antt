@@ -76,7 +76,7 @@ module _ (x : List Effect) (current now : ℕ → Bool) (same : (a : ℕ) → cu
       ∙ ap (λ b. list_all (λ t. now (q_of t)) ms && (list_all (λ t. not (now (q_of t))) (c ∷ os) && b))
       (terms_same (ground.sametxn (plain_all x) (p_of c)) (relation.sametxn x (q_of c)) (λ d. sametxn-same x (p_of c) d ∙ ap (λ a. relation.sametxn x a d) (place-same places cur c)) p_of q_of (place-same places cur) (c ∷ os))
 
-  statement-same : (p : Statement) → plainly.statement_true (plain_all x) current places cur p ≡ truth.statement_true x now places cur p
+  pub statement-same : (p : Statement) → plainly.statement_true (plain_all x) current places cur p ≡ truth.statement_true x now places cur p
   statement-same Always = refl
   statement-same (Related r t u) =
       related-same x r (p_of t) (p_of u) ∙ ap (λ a. truth.related x r a (p_of u)) (place-same places cur t) ∙ ap (λ a. truth.related x r (q_of t) a) (place-same places cur u)
@@ -93,13 +93,13 @@ range-same : (x : List Effect) (choice : OpChoice) (p : ℕ) → plainly.in_rang
 range-same x Any p = one_at (λ e. true) (λ e. true) (λ e. refl) x p
 range-same x (OneOf ops) p = one_at (λ e. list_any (λ o. e.op == o) ops) (λ e. has_id ops e.op.0) (λ e. any_has ops e.op.0) x p
 
-chosen-to : (x : List Effect) (vars : List OpChoice) (places : List ℕ) → plainly.Chosen (plain_all x) vars places → truth.Chosen x vars places
+pub chosen-to : (x : List Effect) (vars : List OpChoice) (places : List ℕ) → plainly.Chosen (plain_all x) vars places → truth.Chosen x vars places
 chosen-to x [] [] c = tt
 chosen-to x [] (p ∷ places) c = absurd c
 chosen-to x (choice ∷ vars) [] c = absurd c
 chosen-to x (choice ∷ vars) (p ∷ places) c = (sym (range-same x choice p) ∙ c.0, chosen-to x vars places c.1)
 
-chosen-from : (x : List Effect) (vars : List OpChoice) (places : List ℕ) → truth.Chosen x vars places → plainly.Chosen (plain_all x) vars places
+pub chosen-from : (x : List Effect) (vars : List OpChoice) (places : List ℕ) → truth.Chosen x vars places → plainly.Chosen (plain_all x) vars places
 chosen-from x [] [] c = tt
 chosen-from x [] (p ∷ places) c = absurd c
 chosen-from x (choice ∷ vars) [] c = absurd c
@@ -134,13 +134,13 @@ execution-same x law = record {
   contiguous = λ a b c h g k. sametxn-same x a b ∙ law.unbroken a b c (sym (sametxn-same x a c) ∙ h) (sym (so-same x a b) ∙ g) (sym (so-same x b c) ∙ k);
 }
 
-op_at : (x : List Effect) (o a : ℕ) → ground.is_op (plain_all x) o a ≡ exec.one (λ e. nat_eq e.op.0 o) (exec.effect_at x a)
+pub op_at : (x : List Effect) (o a : ℕ) → ground.is_op (plain_all x) o a ≡ exec.one (λ e. nat_eq e.op.0 o) (exec.effect_at x a)
 op_at x o a = one_at (λ e. e.op == o) (λ e. nat_eq e.op.0 o) (λ e. refl) x a
 
 some-same : (e f : Effect) (o : Option Effect) → o ≡ Some e → o ≡ Some f → e ≡ f
 some-same e f o h g = cc
 
-fits-same : (types : List ℕ) (x : List Effect) → FitsProgram types x → implication.FitsProgram types (plain_all x)
+pub fits-same : (types : List ℕ) (x : List Effect) → FitsProgram types x → implication.FitsProgram types (plain_all x)
 fits-same types x fits = record {
   known = λ a o h.
       let t = one-there (λ e. nat_eq e.op.0 o) (exec.effect_at x a) (sym (op_at x o a) ∙ h) in

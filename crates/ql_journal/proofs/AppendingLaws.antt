@@ -3,7 +3,7 @@ use Rattle.std.proofs.Common.{◌≡◌, ◌≢◌, ℕ, zero, suc, ◌+◌, ◌
 use Rattle.std.proofs.lemmas.Bool.{cases_eq, lt-leb, le-ltb, and_left, and_right}
 use Rattle.std.proofs.lemmas.List.{append-nil, take_at}
 use Rattle.std.specs.List.{AllByRecursion}
-use Rattle.ql_disk.specs.Bytes.{DiskBytes, IsClean, IsImage, MayLeave, overwritten, in_range}
+use Rattle.ql_journal.specs.Bytes.{DiskBytes, IsClean, IsImage, MayLeave, overwritten, in_range}
 use Rattle.ql_journal.specs.Records.{HasRecords, IsClosed, IsLawful, body, records_of}
 use Rattle.ql_journal.specs.Images.{IsAppended, IsBeforeOrAfter}
 

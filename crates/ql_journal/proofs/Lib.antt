@@ -1,3 +1,6 @@
+pub mod Overwriting
+pub mod Stops
+pub mod Lasting
 pub mod Numbers
 pub mod ReadingLaws
 pub mod KnownLaws

@@ -3,8 +3,8 @@ use Rattle.std.proofs.Common.{◌≡◌, ℕ, suc, ◌+◌, ◌<◌, ◌≤◌, 
 use Rattle.std.proofs.lemmas.Bool.{both_ways, or_left, or_right, eq-eqb, false≢true}
 use Rattle.std.specs.List.{AllByRecursion}
 use Rattle.ql_base.specs.IdLists.{IsAscending, IsBelowAll, has_id}
-use Rattle.ql_disk.specs.Bytes.{DiskBytes}
-use Rattle.ql_disk.specs.Forecasts.{Forecast, Foretold}
+use Rattle.ql_journal.specs.Bytes.{DiskBytes}
+use Rattle.ql_journal.specs.Forecasts.{Forecast, Foretold}
 use Rattle.ql_exec.specs.declared.effect.Effect.{Effect}
 use Rattle.ql_holder.specs.Arrivals.{IsArrival}
 use Rattle.ql_holder.specs.declared.arrival.Arrival.{Arrival}

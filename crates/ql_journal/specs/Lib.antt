@@ -1,3 +1,9 @@
+pub mod Bytes
+pub mod Moments
+pub mod Forecasts
+pub mod Unreported
+pub mod Marks
+pub mod MemDisks
 pub mod Sizes
 pub mod Records
 pub mod Gates

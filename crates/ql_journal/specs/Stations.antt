@@ -1,8 +1,8 @@
 -- A station: what it keeps besides its holder, and the disk that agrees with it.
 use Rattle.std.specs.Prelude.{◌≡◌, ℕ, ◌+◌, Bool, true, false, List, Option, [], ◌∷◌, ◌++◌, length, Result, Ok, Err}
 use Rattle.ql_base.specs.IdLists.{has_id}
-use Rattle.ql_disk.specs.Bytes.{DiskBytes, IsClean}
-use Rattle.ql_disk.specs.Forecasts.{Forecast, Foretold}
+use Rattle.ql_journal.specs.Bytes.{DiskBytes, IsClean}
+use Rattle.ql_journal.specs.Forecasts.{Forecast, Foretold}
 use Rattle.ql_exec.specs.declared.effect.Effect.{Effect}
 use Rattle.ql_holder.specs.declared.arrival.Arrival.{Arrival}
 use Rattle.ql_holder.specs.declared.arrival.Arrival.TheVariants.{Again, Waits, Applies}

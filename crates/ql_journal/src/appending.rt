@@ -1,13 +1,14 @@
 ghost use Rattle.std.specs.Prelude.{◌<◌, ◌≤◌, ◌+◌, ◌^◌, ◌++◌, ◌∷◌, [], ℕ, List, length, OnOk, OnErr, IfSome};
 ghost use Rattle.std.specs.Result.{is_ok};
-ghost use Rattle.ql_disk.specs.Bytes.{IsClean};
-ghost use Rattle.ql_disk.specs.Forecasts.{Foretold};
-ghost use Rattle.ql_disk.specs.Moments.{LeavesOnly};
+ghost use Rattle.ql_journal.specs.Bytes.{IsClean};
+ghost use Rattle.ql_journal.specs.Forecasts.{Foretold};
+ghost use Rattle.ql_journal.specs.Moments.{LeavesOnly};
 ghost use Rattle.ql_ports.specs.Faults.{Rose};
 ghost use Rattle.ql_journal.specs.Images.{IsAppended, IsBeforeOrAfter};
 ghost use Rattle.ql_journal.specs.Records.{HasRecords};
 
-use ql_disk::{Disk, write_durably};
+use crate::disk::Disk;
+use crate::durable::write_durably;
 use ql_ports::Failed;
 
 /// Writes what follows the gate of a record, with a closed gate after it, and then opens the record's gate.

@@ -1,15 +1,15 @@
 ghost use Rattle.std.specs.Prelude.{◌≡◌, ◌≤◌, ◌∷◌, IfOk, OnOk, IfErr, IsErrOf, IfSome, MatchOption};
-ghost use Rattle.ql_disk.specs.Bytes.{IsClean};
+ghost use Rattle.ql_journal.specs.Bytes.{IsClean};
 ghost use Rattle.ql_ports.specs.Faults.{Rose};
 ghost use Rattle.ql_journal.specs.declared.why.StationWhy.TheVariants as why;
 ghost use Rattle.ql_journal.specs.Gates.{IsShut};
 ghost use Rattle.ql_journal.specs.Stations.{IsOfBytes, IsOfReading, Received, Recovers};
 
+use crate::disk::Disk;
 use crate::known::is_known;
 use crate::reading::ids_of_record;
 use crate::why::StationWhy;
 use ql_base::IdSet;
-use ql_disk::Disk;
 use ql_exec::Execution;
 use ql_holder::Holder;
 use std::alloc::Global;

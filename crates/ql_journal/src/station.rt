@@ -1,8 +1,8 @@
 ghost use Rattle.std.specs.Prelude.{◌≡◌, ◌↔◌, ◌⊎◌, ◌<◌, ◌≤◌, ◌+◌, ◌^◌, [], ℕ, List, true, false, length, IfOk, OnErr, IfErr, IsErrOf, IfSome, Ok, Err};
 ghost use Rattle.std.specs.Result.{is_ok};
-ghost use Rattle.ql_disk.specs.Bytes.{IsImage};
-ghost use Rattle.ql_disk.specs.Forecasts.{Foretold};
-ghost use Rattle.ql_disk.specs.Moments.{LeavesOnly};
+ghost use Rattle.ql_journal.specs.Bytes.{IsImage};
+ghost use Rattle.ql_journal.specs.Forecasts.{Foretold};
+ghost use Rattle.ql_journal.specs.Moments.{LeavesOnly};
 ghost use Rattle.ql_exec.specs.declared.effect.Effect.{Effect};
 ghost use Rattle.ql_holder.specs.Arrivals.{IsArrival};
 ghost use Rattle.ql_holder.specs.declared.arrival.Arrival.TheVariants.{Again};
@@ -30,11 +30,11 @@ ghost use Rattle.ql_journal.specs.Stations.{
 };
 
 use crate::appending::append_record;
+use crate::disk::Disk;
 use crate::recovering::{read_file, received_in};
 use crate::why::StationWhy;
 use crate::writing::{body_of, first_id, record_size};
 use ql_base::{EffId, IdSet};
-use ql_disk::Disk;
 use ql_exec::Execution;
 use ql_holder::{Arrival, Holder};
 use ql_ports::Failed;

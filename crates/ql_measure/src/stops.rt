@@ -5,10 +5,9 @@ ghost use Rattle.ql_journal.specs.Stations.{holder_of};
 
 use crate::print_usage;
 use ql_base::{DeclId, EffId, IdSet, NoMemory, RunId};
-use ql_disk::{Disk, FileDisk};
 use ql_exec::{Execution, Member};
 use ql_holder::Holder;
-use ql_journal::{Station, StationWhy};
+use ql_journal::{Disk, FileDisk, Station, StationWhy};
 use ql_plain_holder::package_of;
 use ql_replica::Replica;
 use ql_reply::Status;

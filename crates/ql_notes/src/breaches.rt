@@ -4,12 +4,12 @@ use crate::arguments::{is_too_great, misfit, push_misfit, push_operation};
 use crate::effects::{other_seen, push_mixed, push_other_object, push_split, right_stamp};
 use crate::lines::{Line, counts_of};
 use crate::pieces::{Span, anywhere, next_of};
+use crate::place::line_of;
 use crate::text::Text;
 use crate::words::{
     find_line, has_word, is, is_among, is_line_start, row, without_blanks, word, word_of,
 };
 use ql_base::{NoMemory, number_of};
-use ql_excerpt::line_of;
 use ql_reply::{Part, Rule};
 use std::alloc::Global;
 

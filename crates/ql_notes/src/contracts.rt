@@ -1,14 +1,15 @@
 // Notes on the contract of a `holds` file.
 ghost use Rattle.std.specs.Prelude.{◌<◌, ◌≤◌, ◌^◌, length};
 
+use crate::excerpt::File;
 use crate::lexical::{is_lexical, push_lexical_fault};
 use crate::lines::Line;
 use crate::pieces::{next_of, pieces, tokens_of};
+use crate::place::line_of;
 use crate::sources::{Reading, push_fault_at};
 use crate::text::Text;
 use crate::words::{find_line, has_word, is, is_among, is_line_start, word_of};
 use ql_base::{Names, NoMemory};
-use ql_excerpt::{File, line_of};
 use ql_lex::LexFault;
 use ql_parse::{ParseFault, few_operations, parse_contract};
 use ql_reply::Rule;

@@ -3,10 +3,10 @@
 use crate::breaches::first_seen;
 use crate::lines::Line;
 use crate::pieces::{anywhere, type_at};
+use crate::place::line_of;
 use crate::text::Text;
 use crate::words::{is, is_line_start, line_with, without_return, word, word_of};
 use ql_base::number_of;
-use ql_excerpt::line_of;
 
 // An effect: its number, its object, its operation, its session, its transaction and its stamp.
 #[derive(Clone, Copy)]

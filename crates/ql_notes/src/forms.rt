@@ -6,11 +6,11 @@
 use crate::kinds_of_files::push_kind_of_file;
 use crate::lexical::BYTE_ORDER_MARK;
 use crate::lines::{Above, Line};
+use crate::place::line_of;
 use crate::syntax::push_found;
 use crate::text::Text;
 use crate::words::{has_word, is, is_line_start, line_with, row, word, word_of};
 use ql_base::{digit_bytes, is_name, number_of};
-use ql_excerpt::line_of;
 use ql_reply::Part;
 
 /// Appends a note on a line that doesn't have its form: what it has there, and what was expected.

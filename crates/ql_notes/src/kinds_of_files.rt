@@ -1,8 +1,8 @@
 // What kind of file a text looks like, for files that were given in each other's place.
 
+use crate::place::line_of;
 use crate::text::Text;
 use crate::words::{is, is_line_start, row, word_of};
-use ql_excerpt::line_of;
 use ql_reply::Part;
 
 // By the first word of a file.

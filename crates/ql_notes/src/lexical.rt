@@ -1,8 +1,8 @@
 // Why bytes of a source aren't a token.
 
+use crate::excerpt::{File, Spot};
 use crate::text::Text;
 use ql_base::{digit_bytes, is_word_byte};
-use ql_excerpt::{File, Spot};
 use ql_reply::Rule;
 
 /// The bytes with which some editors begin a file.

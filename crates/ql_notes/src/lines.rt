@@ -3,12 +3,13 @@ ghost use Rattle.std.specs.Prelude.{◌≤◌, length};
 
 use crate::breaches::push_breach;
 use crate::contracts::push_contract_fault;
+use crate::excerpt::{File, Spot};
 use crate::forms::push_form_fault;
 use crate::pieces::anywhere;
+use crate::place::{line_of, place_of_line};
 use crate::text::Text;
 use crate::words::{find_line, is, is_line_start, line_with, without_return, word_of};
 use ql_base::{NoMemory, number_of};
-use ql_excerpt::{File, Spot, line_of, place_of_line};
 use ql_reply::{Fault, Part, Rule};
 use std::alloc::Global;
 

@@ -1,6 +1,7 @@
 // The note on how a call ended.
 
 use crate::contracts::push_absent_operations;
+use crate::excerpt::File;
 use crate::lines::push_line_fault;
 use crate::pieces::{nth_of, pieces, tokens_of};
 use crate::refusals::{push_order, push_refusal};
@@ -10,7 +11,6 @@ use crate::usage::push_usage;
 use crate::verdicts::{push_failing, push_no_level, push_strong};
 use crate::words::is;
 use ql_base::NoMemory;
-use ql_excerpt::File;
 use ql_reply::{Cause, Ended, Fault, Part, Status};
 use std::alloc::Global;
 

@@ -1,11 +1,12 @@
 // Notes on a certificate or a proof that is refused: the section, the line, and what can be done.
 
+use crate::excerpt::{File, Spot};
 use crate::pieces::{nth_of, piece_after};
+use crate::place::line_of;
 use crate::sources::Reading;
 use crate::text::Text;
 use crate::words::{has_word, is, is_line_start, row, without_return, word_of};
 use ql_base::number_of;
-use ql_excerpt::{File, Spot, line_of};
 use ql_reply::{Refused, Rule};
 
 // Sentences by the rule for which a section is refused.

@@ -2,6 +2,7 @@
 
 use crate::advice::push_advice;
 use crate::clashes::{Clash, clash_at, push_clash};
+use crate::excerpt::{File, Spot};
 use crate::kinds_of_files::push_kind_of_file;
 use crate::lexical::{is_lexical, push_lexical_fault};
 use crate::names::{declaration_of, first_of, push_known, push_unknown};
@@ -10,7 +11,6 @@ use crate::syntax::push_syntax;
 use crate::text::Text;
 use crate::words::row;
 use ql_base::{MAX_SOURCE_BYTES, NoMemory};
-use ql_excerpt::{File, Spot};
 use ql_lex::Token;
 use ql_parse::{ParseFault, parse_program};
 use ql_reply::{Fault, Rule};

@@ -4,10 +4,10 @@
 // the terminal, the grammar allows it there.
 ghost use Rattle.std.specs.Prelude.{◌≤◌, length};
 
+use crate::place::line_of;
 use crate::text::Text;
 use crate::words::{has_word, is, is_among, is_line_start, is_word_start, row, word};
 use ql_base::{MAX_SOURCE_BYTES, NoMemory, is_keyword};
-use ql_excerpt::line_of;
 use ql_parse::{ParseFault, parse_program};
 use std::alloc::Global;
 

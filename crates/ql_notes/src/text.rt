@@ -1,7 +1,7 @@
 // The text of a note.
 
+use crate::excerpt::{File, Spot, push_line, push_position, push_shown};
 use ql_base::{NoMemory, push_number};
-use ql_excerpt::{File, Spot, push_line, push_position, push_shown};
 use std::alloc::Global;
 
 // How many names are listed at most, and how many bytes of a word are shown.

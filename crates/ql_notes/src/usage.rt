@@ -2,10 +2,10 @@
 
 use crate::arguments::push_counts;
 use crate::help::HELP;
+use crate::place::line_of;
 use crate::text::Text;
 use crate::words::{has_word, is, is_line_start, row, word, word_of};
 use ql_base::number_of;
-use ql_excerpt::line_of;
 
 // How many files and numbers a command takes, and its options.
 const COMMANDS: &str = "classify 1 --why

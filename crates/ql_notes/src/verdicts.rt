@@ -1,13 +1,13 @@
 // Notes on an answer that isn't yes, though no file is faulty: which contract or effect it is about.
 
 use crate::effects::find_effect;
+use crate::excerpt::{File, Spot};
 use crate::lines::first_read;
 use crate::pieces::{Span, anywhere, last_of, next_of, nth_of, piece, piece_after};
 use crate::refusals::{line_at, whole_line};
 use crate::sources::Reading;
 use crate::text::Text;
 use crate::words::{is, word_of};
-use ql_excerpt::{File, Spot};
 use ql_reply::Part;
 
 /// Appends a note on a contract for which no level is enough: that of the declaration whose keyword is a token.

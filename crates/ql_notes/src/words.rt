@@ -1,6 +1,6 @@
 // Words and lines of a text.
 
-use ql_excerpt::line_of;
+use crate::place::line_of;
 
 /// The bytes before the first space or line feed, and those after it.
 pub(crate) fn word(text: &[u8]) -> (&[u8], &[u8]) {

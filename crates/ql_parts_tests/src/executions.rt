@@ -1,7 +1,6 @@
 use ql_base::{DeclId, IdSet, NoMemory, RunId};
 use ql_exec::{Execution, Member};
-use ql_tables::number;
-use ql_test_inputs::{draft, push};
+use ql_test_inputs::{draft, number, push};
 use std::alloc::Global;
 
 /// The execution of effects that are spelled one after another, with semicolons between them: each an

@@ -1,10 +1,8 @@
 use crate::two_effects::{push_held, push_why, two_effects};
 use ql_base::NoMemory;
-use ql_disk::{Disk, MemDisk};
-use ql_journal::Station;
+use ql_journal::{Disk, MemDisk, Station};
 use ql_plain_holder::PlainHolder;
-use ql_tables::{check_table, number};
-use ql_test_inputs::id_set;
+use ql_test_inputs::{check_table, id_set, number};
 use std::alloc::Global;
 use std::test::Fail;
 

@@ -4,8 +4,7 @@ ghost use Rattle.ql_session.specs.Executions.{notes_of};
 use ql_base::{EffId, IdSet, NoMemory, ObjId, SessId, push_bytes, push_number};
 use ql_exec::{Effect, Execution, Member};
 use ql_session::Sessions;
-use ql_tables::{check_table, id_set_of, number};
-use ql_test_inputs::{draft, id_set};
+use ql_test_inputs::{check_table, draft, id_set, id_set_of, number};
 use std::alloc::Global;
 use std::test::Fail;
 

@@ -4,7 +4,7 @@ use ql_exec::Execution;
 use ql_holder::{Arrival, Holder};
 use ql_plain_holder::{PlainHolder, package_of};
 use ql_replica::Replica;
-use ql_tables::{check_table, number};
+use ql_test_inputs::{check_table, number};
 use std::alloc::Global;
 use std::test::Fail;
 

@@ -1,16 +1,14 @@
 ghost use Rattle.std.specs.Prelude.{◌≡◌, ◌≤◌, false, length};
-ghost use Rattle.ql_disk.specs.MemDisks.{bytes_of};
+ghost use Rattle.ql_journal.specs.MemDisks.{bytes_of};
 ghost use Rattle.ql_journal.specs.Stations.{Agrees, holder_of, is_stopped};
 
 use crate::two_effects::{push_held, push_why, two_effects};
 use ql_base::{NoMemory, push_bytes};
-use ql_disk::MemDisk;
 use ql_exec::Execution;
 use ql_holder::Holder;
-use ql_journal::{Station, StationWhy};
+use ql_journal::{MemDisk, Station, StationWhy};
 use ql_plain_holder::{PlainHolder, package_of};
-use ql_tables::{check_table, number};
-use ql_test_inputs::id_set;
+use ql_test_inputs::{check_table, id_set, number};
 use std::alloc::Global;
 use std::test::Fail;
 

@@ -6,8 +6,8 @@ use Rattle.std.proofs.lemmas.List.Elements.{filter-append}
 use Rattle.std.proofs.lemmas.Option.{same_Some}
 use Rattle.std.proofs.Math.Seq.{take-suc}
 use Rattle.ql_base.specs.IdLists.{has_id}
-use Rattle.ql_disk.specs.declared.mem_disk.MemDisk.{MemDisk}
-use Rattle.ql_disk.specs.MemDisks.{bytes_of, content_of}
+use Rattle.ql_journal.specs.declared.mem_disk.MemDisk.{MemDisk}
+use Rattle.ql_journal.specs.MemDisks.{bytes_of, content_of}
 use Rattle.ql_exec.specs.declared.effect.Effect.{Effect}
 use Rattle.ql_exec.specs.Relations.{sametxn}
 use Rattle.ql_journal.specs.declared.station.Station.{Station}

@@ -4,9 +4,9 @@ use Rattle.std.specs.Option.{option_map_or}
 use Rattle.std.proofs.lemmas.Bool.{both_ways, leb-false, leb-true}
 use Rattle.ql_base.specs.IdLists.{IsAscending, has_id, union_of}
 use Rattle.ql_base.proofs.IdLemmas.{IsAscending-union}
-use Rattle.ql_disk.specs.declared.mem_disk.MemDisk.{MemDisk}
-use Rattle.ql_disk.specs.Forecasts.{Forecast, Foretold}
-use Rattle.ql_disk.specs.MemDisks.{forecast_of, room_of}
+use Rattle.ql_journal.specs.declared.mem_disk.MemDisk.{MemDisk}
+use Rattle.ql_journal.specs.Forecasts.{Forecast, Foretold}
+use Rattle.ql_journal.specs.MemDisks.{forecast_of, room_of}
 use Rattle.ql_exec.specs.declared.effect.Effect.{Effect}
 use Rattle.ql_holder.specs.Arrivals.{IsArrival}
 use Rattle.ql_holder.specs.declared.arrival.Arrival.{Arrival}

@@ -3,8 +3,8 @@ use Rattle.std.specs.Prelude.{◌≡◌, ◌⊎◌, ℕ, ◌+◌, ◌*◌, ◌<�
 use Rattle.std.specs.List.{AllByRecursion}
 use Rattle.std.specs.Option.{option_map_or}
 use Rattle.ql_base.specs.IdLists.{has_id}
-use Rattle.ql_disk.specs.declared.mem_disk.MemDisk.{MemDisk}
-use Rattle.ql_disk.specs.MemDisks.{bytes_of, content_of, forecast_of, room_of}
+use Rattle.ql_journal.specs.declared.mem_disk.MemDisk.{MemDisk}
+use Rattle.ql_journal.specs.MemDisks.{bytes_of, content_of, forecast_of, room_of}
 use Rattle.ql_exec.specs.declared.effect.Effect.{Effect}
 use Rattle.ql_exec.specs.Relations.{sametxn}
 use Rattle.ql_journal.specs.declared.station.Station.{Station}

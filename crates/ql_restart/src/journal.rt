@@ -1,6 +1,6 @@
 ghost use Rattle.std.specs.Prelude.{◌≡◌, ◌-◌, ◌<◌, ◌≤◌, ℕ, false, [], length, IfOk, MatchOption};
 ghost use Rattle.ql_base.specs.IdLists.{has_id};
-ghost use Rattle.ql_disk.specs.MemDisks.{bytes_of, content_of};
+ghost use Rattle.ql_journal.specs.MemDisks.{bytes_of, content_of};
 ghost use Rattle.ql_journal.specs.Stations.{holder_of};
 ghost use Rattle.ql_machine.specs.Kept.{IsParcel};
 ghost use Rattle.ql_holder.specs.Closed.{Has};
@@ -8,10 +8,9 @@ ghost use Rattle.ql_restart.specs.Journaled.{packages};
 ghost use Rattle.ql_restart.specs.Progress.{AreOnce, IsJournal, IsReady, Receives, UnlessNoMemory, calls_left};
 
 use ql_base::{EffId, IdSet, NoMemory};
-use ql_disk::MemDisk;
 use ql_exec::Execution;
 use ql_holder::Holder;
-use ql_journal::{Station, StationWhy};
+use ql_journal::{MemDisk, Station, StationWhy};
 use ql_strong::package_of;
 use std::alloc::Global;
 

@@ -1,6 +1,6 @@
 ghost use Rattle.std.specs.Prelude.{◌≡◌, ◌++◌, ◌≤◌, ℕ, List, codes, IfOk};
 ghost use Rattle.ql_base.specs.IdLists.{has_id};
-ghost use Rattle.ql_disk.specs.MemDisks.{content_of};
+ghost use Rattle.ql_journal.specs.MemDisks.{content_of};
 ghost use Rattle.ql_journal.specs.Records.{HasRecords, in_records};
 ghost use Rattle.ql_journal.specs.Stations.{holder_of};
 ghost use Rattle.ql_machine.specs.Sets.{AreThose};
@@ -10,10 +10,9 @@ ghost use Rattle.ql_restart.specs.Restarts.{IsRestartText, id_line};
 
 use crate::journal::stopped_disk;
 use ql_base::{EffId, IdSet, NoMemory, push_bytes};
-use ql_disk::MemDisk;
 use ql_exec::Execution;
 use ql_holder::Holder;
-use ql_journal::{Station, StationWhy};
+use ql_journal::{MemDisk, Station, StationWhy};
 use ql_run_text::push_ids;
 use ql_shim::applied_among;
 use ql_store::Store;

@@ -4,7 +4,7 @@ ghost use Rattle.ql_cnf.specs.Circuits.{circuit_of, InputsInRange, gates};
 use crate::texts::{add, clauses_of, literal, literals, push_literals};
 use ql_base::{NoMemory, push_bytes, push_number};
 use ql_cnf::{Assignment, Clause, Clauses, Ground, clausify, satisfies};
-use ql_tables::{check_table, spelled};
+use ql_test_inputs::{check_table, spelled};
 use std::alloc::Global;
 use std::test::Fail;
 

@@ -1,7 +1,7 @@
 use ql_base::{NoMemory, OpId, push_bytes, push_number};
 use ql_lang::{Body, Formula};
 use ql_levels::{Level, Levels, TxnLevel, formula, level_of, txn_formula, txn_of};
-use ql_tables::check_table;
+use ql_test_inputs::check_table;
 use std::alloc::Global;
 use std::test::Fail;
 

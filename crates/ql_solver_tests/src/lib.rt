@@ -7,6 +7,8 @@ mod clauses;
 #[cfg(test)]
 mod levels;
 #[cfg(test)]
+mod relative;
+#[cfg(test)]
 mod solver;
 #[cfg(test)]
 mod texts;

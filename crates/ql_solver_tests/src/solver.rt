@@ -5,7 +5,7 @@ use ql_base::NoMemory;
 use ql_cnf::{Clauses, satisfies};
 use ql_refute::{Verdict, check};
 use ql_sat::{Decided, decide};
-use ql_tables::{check_table, spelled};
+use ql_test_inputs::{check_table, spelled};
 use std::alloc::Global;
 use std::test::Fail;
 

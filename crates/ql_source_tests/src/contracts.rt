@@ -1,6 +1,6 @@
 use ql_base::{Names, NoMemory, push_bytes, push_number};
 use ql_parse::{few_operations, parse_contract};
-use ql_tables::check_table;
+use ql_test_inputs::check_table;
 use ql_typing::{TypeFault, resolve};
 use std::alloc::Global;
 use std::test::Fail;

@@ -2,7 +2,7 @@ use crate::texts::once_and_again;
 use ql_base::NoMemory;
 use ql_lang::print_program;
 use ql_parse::parse_program;
-use ql_tables::{check_table, spelled};
+use ql_test_inputs::{check_table, spelled};
 use std::alloc::Global;
 use std::test::Fail;
 

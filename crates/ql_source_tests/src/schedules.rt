@@ -1,7 +1,6 @@
 use ql_base::NoMemory;
 use ql_schedule::{parse_schedule, print_schedule};
-use ql_tables::{SHOP, check_table};
-use ql_test_inputs::declared;
+use ql_test_inputs::{SHOP, check_table, declared};
 use std::alloc::Global;
 use std::test::Fail;
 

@@ -1,5 +1,5 @@
 use ql_base::NoMemory;
-use ql_tables::spelled;
+use ql_test_inputs::spelled;
 use std::alloc::Global;
 
 /// A printed text, where printing what is read of it yields the same text again.

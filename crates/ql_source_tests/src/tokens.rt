@@ -1,6 +1,6 @@
 use ql_base::{NoMemory, push_bytes, push_number};
 use ql_lex::{Token, TokenKind, tokens};
-use ql_tables::{check_table, spelled};
+use ql_test_inputs::{check_table, spelled};
 use std::alloc::Global;
 use std::test::Fail;
 

@@ -1,3 +1,4 @@
+use Rattle.std.proofs.lemmas.Result.{err_from_is_err_and}
 use Rattle.std.proofs.Common.{refl, inl, inr, get_or}
 use Rattle.ql_base.proofs.IdLemmas.{merge-turn, merge-end, step-inside}
 use Rattle.ql_base.proofs.id_set.merged.Goals as goal
@@ -20,3 +21,15 @@ returns c =
       | then-loop-i-test+else-j-ys w ↦ merge-end _ c.loop-i.both.items c.args.xs.now c.args.ys.now c.loop-i.i c.loop-i.j c.requires.left (inr w.if-j-ys.false) c.loop-i.invariant.union
       | else-loop-i-test w ↦ merge-end _ c.loop-i.both.items c.args.xs.now c.args.ys.now c.loop-i.i c.loop-i.j c.requires.left (inl w.loop-i-test.false) c.loop-i.invariant.union
     ])
+
+pub returns-in_err-both : goal.returns-in_err-both
+returns-in_err-both c = let p = err_from_is_err_and c.from_residual.result c.from_residual.ensures.1 in rw p.1 tt
+
+pub returns-in_err-extend_from_slice : goal.returns-in_err-extend_from_slice
+returns-in_err-extend_from_slice c = let p = err_from_is_err_and c.from_residual-in_err-extend_from_slice.result c.from_residual-in_err-extend_from_slice.ensures.1 in rw p.1 tt
+
+pub returns-in_err-extend_from_slice-2 : goal.returns-in_err-extend_from_slice-2
+returns-in_err-extend_from_slice-2 c = let p = err_from_is_err_and c.from_residual-in_err-extend_from_slice-2.result c.from_residual-in_err-extend_from_slice-2.ensures.1 in rw p.1 tt
+
+pub returns-in_err-push : goal.returns-in_err-push
+returns-in_err-push c = let p = err_from_is_err_and c.from_residual-in_err-push.result c.from_residual-in_err-push.ensures.1 in rw p.1 tt

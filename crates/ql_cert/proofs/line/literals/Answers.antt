@@ -1,3 +1,4 @@
+use Rattle.std.proofs.lemmas.Result.{err_from_is_err_and}
 use Rattle.std.proofs.Common.{◌++◌, List, None, ap, subst, ◌∙◌}
 use Rattle.ql_lines.specs.Fields.{fields_of, Fields}
 use Rattle.ql_cnf.specs.declared.lit.Lit.{Lit}
@@ -12,3 +13,6 @@ returns-in_default-next_literal c =
     let here = c.loop-field.invariant.0 ∙ ap (λ (r : Fields). clause_fields read ++ r) c.in-Some.ensures.fields in
     no_literals read c.in-Some.field.now (fields_of c.in-Some.remaining.now) (fields_of c.args.text.now) here c.loop-field.invariant.1
     (subst (λ (b : List Lit). IsRead (IsNext b) lit_field c.in-Some.field.now None) c.as_slice.ensures.value c.in_default-next_literal.ensures)
+
+pub returns-in_err-push : goal.returns-in_err-push
+returns-in_err-push c = let p = err_from_is_err_and c.from_residual.result c.from_residual.ensures.1 in rw p.1 tt

@@ -1,5 +1,5 @@
 use Rattle.std.proofs.Common.{◌≡◌, ◌+◌, ◌++◌, suc, arith, refl}
-use Rattle.std.proofs.lemmas.Result.{on_ok_weaker}
+use Rattle.std.proofs.lemmas.Result.{err_from_is_err_and, on_ok_weaker}
 use Rattle.ql_cnf.specs.Circuits.{circuit_of, clauses_of, both_clauses, either_clauses, if_then_clauses}
 use Rattle.ql_cnf.proofs.CircuitLemmas.{nodes, inputs_more, gate_joined}
 use Rattle.ql_cnf.proofs.tseitin.+define.Goals as goal
@@ -60,3 +60,99 @@ returns-in_ok-y-in-Implies-clause-clauses t c = on_ok_weaker c.define_if_then.re
     c.in_ok-x-in-Implies.ensures.clauses c.in_ok-y-in-Implies.ensures.clauses c.in_ok-x-in-Implies.ensures.variables c.in_ok-y-in-Implies.ensures.variables
     c.in_ok-x-in-Implies.ensures.output c.in_ok-y-in-Implies.ensures.output last))
     c.define_if_then.ensures.clauses
+
+pub returns-in_err-append-in-True-clause-clauses : goal.returns-in_err-append-in-True-clause-clauses
+returns-in_err-append-in-True-clause-clauses t c = let p = err_from_is_err_and c.from_residual-in_err-append-in-True.result c.from_residual-in_err-append-in-True.ensures.1 in rw p.1 tt
+
+pub returns-in_err-append-in-True-clause-in_range : goal.returns-in_err-append-in-True-clause-in_range
+returns-in_err-append-in-True-clause-in_range t c = let p = err_from_is_err_and c.from_residual-in_err-append-in-True.result c.from_residual-in_err-append-in-True.ensures.1 in rw p.1 tt
+
+pub returns-in_err-append-in-True-clause-output : goal.returns-in_err-append-in-True-clause-output
+returns-in_err-append-in-True-clause-output t c = let p = err_from_is_err_and c.from_residual-in_err-append-in-True.result c.from_residual-in_err-append-in-True.ensures.1 in rw p.1 tt
+
+pub returns-in_err-append-in-True-clause-variables : goal.returns-in_err-append-in-True-clause-variables
+returns-in_err-append-in-True-clause-variables t c = let p = err_from_is_err_and c.from_residual-in_err-append-in-True.result c.from_residual-in_err-append-in-True.ensures.1 in rw p.1 tt
+
+pub returns-in_err-t-in-True-clause-clauses : goal.returns-in_err-t-in-True-clause-clauses
+returns-in_err-t-in-True-clause-clauses t c = let p = err_from_is_err_and c.from_residual.result c.from_residual.ensures.1 in rw p.1 tt
+
+pub returns-in_err-t-in-True-clause-in_range : goal.returns-in_err-t-in-True-clause-in_range
+returns-in_err-t-in-True-clause-in_range t c = let p = err_from_is_err_and c.from_residual.result c.from_residual.ensures.1 in rw p.1 tt
+
+pub returns-in_err-t-in-True-clause-output : goal.returns-in_err-t-in-True-clause-output
+returns-in_err-t-in-True-clause-output t c = let p = err_from_is_err_and c.from_residual.result c.from_residual.ensures.1 in rw p.1 tt
+
+pub returns-in_err-t-in-True-clause-variables : goal.returns-in_err-t-in-True-clause-variables
+returns-in_err-t-in-True-clause-variables t c = let p = err_from_is_err_and c.from_residual.result c.from_residual.ensures.1 in rw p.1 tt
+
+pub returns-in_err-x-in-And-clause-clauses : goal.returns-in_err-x-in-And-clause-clauses
+returns-in_err-x-in-And-clause-clauses t c = let p = err_from_is_err_and c.from_residual-in_err-x-in-And.result c.from_residual-in_err-x-in-And.ensures.1 in rw p.1 tt
+
+pub returns-in_err-x-in-And-clause-in_range : goal.returns-in_err-x-in-And-clause-in_range
+returns-in_err-x-in-And-clause-in_range t c = let p = err_from_is_err_and c.from_residual-in_err-x-in-And.result c.from_residual-in_err-x-in-And.ensures.1 in rw p.1 tt
+
+pub returns-in_err-x-in-And-clause-output : goal.returns-in_err-x-in-And-clause-output
+returns-in_err-x-in-And-clause-output t c = let p = err_from_is_err_and c.from_residual-in_err-x-in-And.result c.from_residual-in_err-x-in-And.ensures.1 in rw p.1 tt
+
+pub returns-in_err-x-in-And-clause-variables : goal.returns-in_err-x-in-And-clause-variables
+returns-in_err-x-in-And-clause-variables t c = let p = err_from_is_err_and c.from_residual-in_err-x-in-And.result c.from_residual-in_err-x-in-And.ensures.1 in rw p.1 tt
+
+pub returns-in_err-x-in-Implies-clause-clauses : goal.returns-in_err-x-in-Implies-clause-clauses
+returns-in_err-x-in-Implies-clause-clauses t c = let p = err_from_is_err_and c.from_residual-in_err-x-in-Implies.result c.from_residual-in_err-x-in-Implies.ensures.1 in rw p.1 tt
+
+pub returns-in_err-x-in-Implies-clause-in_range : goal.returns-in_err-x-in-Implies-clause-in_range
+returns-in_err-x-in-Implies-clause-in_range t c = let p = err_from_is_err_and c.from_residual-in_err-x-in-Implies.result c.from_residual-in_err-x-in-Implies.ensures.1 in rw p.1 tt
+
+pub returns-in_err-x-in-Implies-clause-output : goal.returns-in_err-x-in-Implies-clause-output
+returns-in_err-x-in-Implies-clause-output t c = let p = err_from_is_err_and c.from_residual-in_err-x-in-Implies.result c.from_residual-in_err-x-in-Implies.ensures.1 in rw p.1 tt
+
+pub returns-in_err-x-in-Implies-clause-variables : goal.returns-in_err-x-in-Implies-clause-variables
+returns-in_err-x-in-Implies-clause-variables t c = let p = err_from_is_err_and c.from_residual-in_err-x-in-Implies.result c.from_residual-in_err-x-in-Implies.ensures.1 in rw p.1 tt
+
+pub returns-in_err-x-in-Or-clause-clauses : goal.returns-in_err-x-in-Or-clause-clauses
+returns-in_err-x-in-Or-clause-clauses t c = let p = err_from_is_err_and c.from_residual-in_err-x-in-Or.result c.from_residual-in_err-x-in-Or.ensures.1 in rw p.1 tt
+
+pub returns-in_err-x-in-Or-clause-in_range : goal.returns-in_err-x-in-Or-clause-in_range
+returns-in_err-x-in-Or-clause-in_range t c = let p = err_from_is_err_and c.from_residual-in_err-x-in-Or.result c.from_residual-in_err-x-in-Or.ensures.1 in rw p.1 tt
+
+pub returns-in_err-x-in-Or-clause-output : goal.returns-in_err-x-in-Or-clause-output
+returns-in_err-x-in-Or-clause-output t c = let p = err_from_is_err_and c.from_residual-in_err-x-in-Or.result c.from_residual-in_err-x-in-Or.ensures.1 in rw p.1 tt
+
+pub returns-in_err-x-in-Or-clause-variables : goal.returns-in_err-x-in-Or-clause-variables
+returns-in_err-x-in-Or-clause-variables t c = let p = err_from_is_err_and c.from_residual-in_err-x-in-Or.result c.from_residual-in_err-x-in-Or.ensures.1 in rw p.1 tt
+
+pub returns-in_err-y-in-And-clause-clauses : goal.returns-in_err-y-in-And-clause-clauses
+returns-in_err-y-in-And-clause-clauses t c = let p = err_from_is_err_and c.from_residual-in_err-y-in-And.result c.from_residual-in_err-y-in-And.ensures.1 in rw p.1 tt
+
+pub returns-in_err-y-in-And-clause-in_range : goal.returns-in_err-y-in-And-clause-in_range
+returns-in_err-y-in-And-clause-in_range t c = let p = err_from_is_err_and c.from_residual-in_err-y-in-And.result c.from_residual-in_err-y-in-And.ensures.1 in rw p.1 tt
+
+pub returns-in_err-y-in-And-clause-output : goal.returns-in_err-y-in-And-clause-output
+returns-in_err-y-in-And-clause-output t c = let p = err_from_is_err_and c.from_residual-in_err-y-in-And.result c.from_residual-in_err-y-in-And.ensures.1 in rw p.1 tt
+
+pub returns-in_err-y-in-And-clause-variables : goal.returns-in_err-y-in-And-clause-variables
+returns-in_err-y-in-And-clause-variables t c = let p = err_from_is_err_and c.from_residual-in_err-y-in-And.result c.from_residual-in_err-y-in-And.ensures.1 in rw p.1 tt
+
+pub returns-in_err-y-in-Implies-clause-clauses : goal.returns-in_err-y-in-Implies-clause-clauses
+returns-in_err-y-in-Implies-clause-clauses t c = let p = err_from_is_err_and c.from_residual-in_err-y-in-Implies.result c.from_residual-in_err-y-in-Implies.ensures.1 in rw p.1 tt
+
+pub returns-in_err-y-in-Implies-clause-in_range : goal.returns-in_err-y-in-Implies-clause-in_range
+returns-in_err-y-in-Implies-clause-in_range t c = let p = err_from_is_err_and c.from_residual-in_err-y-in-Implies.result c.from_residual-in_err-y-in-Implies.ensures.1 in rw p.1 tt
+
+pub returns-in_err-y-in-Implies-clause-output : goal.returns-in_err-y-in-Implies-clause-output
+returns-in_err-y-in-Implies-clause-output t c = let p = err_from_is_err_and c.from_residual-in_err-y-in-Implies.result c.from_residual-in_err-y-in-Implies.ensures.1 in rw p.1 tt
+
+pub returns-in_err-y-in-Implies-clause-variables : goal.returns-in_err-y-in-Implies-clause-variables
+returns-in_err-y-in-Implies-clause-variables t c = let p = err_from_is_err_and c.from_residual-in_err-y-in-Implies.result c.from_residual-in_err-y-in-Implies.ensures.1 in rw p.1 tt
+
+pub returns-in_err-y-in-Or-clause-clauses : goal.returns-in_err-y-in-Or-clause-clauses
+returns-in_err-y-in-Or-clause-clauses t c = let p = err_from_is_err_and c.from_residual-in_err-y-in-Or.result c.from_residual-in_err-y-in-Or.ensures.1 in rw p.1 tt
+
+pub returns-in_err-y-in-Or-clause-in_range : goal.returns-in_err-y-in-Or-clause-in_range
+returns-in_err-y-in-Or-clause-in_range t c = let p = err_from_is_err_and c.from_residual-in_err-y-in-Or.result c.from_residual-in_err-y-in-Or.ensures.1 in rw p.1 tt
+
+pub returns-in_err-y-in-Or-clause-output : goal.returns-in_err-y-in-Or-clause-output
+returns-in_err-y-in-Or-clause-output t c = let p = err_from_is_err_and c.from_residual-in_err-y-in-Or.result c.from_residual-in_err-y-in-Or.ensures.1 in rw p.1 tt
+
+pub returns-in_err-y-in-Or-clause-variables : goal.returns-in_err-y-in-Or-clause-variables
+returns-in_err-y-in-Or-clause-variables t c = let p = err_from_is_err_and c.from_residual-in_err-y-in-Or.result c.from_residual-in_err-y-in-Or.ensures.1 in rw p.1 tt

@@ -1,4 +1,4 @@
-use Rattle.std.proofs.lemmas.Result.{IfOk-weaker}
+use Rattle.std.proofs.lemmas.Result.{err_from_is_err_and, IfOk-weaker}
 use Rattle.ql_commands.proofs.Report.{reported_accepted, reported_none, reported_refused}
 use Rattle.ql_commands.proofs.section_lines.+push_sections.Goals as goal
 
@@ -16,3 +16,21 @@ pub returns-in_default-verdict-clause-says : goal.returns-in_default-verdict-cla
 returns-in_default-verdict-clause-says n c =
     reported_refused c.args.t.now.program c.args.place c.args.sections.now c.in-Some.section.now c.in-Some.others.now c.goal_of-goal.result c.in_ok-verdict.verdict c.args.out.now.items c.push_section.new.out.items c.push_verdict.new.out.items
     c.in-Some.ensures.cases.0 c.goal_of-goal.ensures.value c.in_ok-verdict.ensures c.in_ok-push_section.ensures c.in_ok-push_verdict.ensures c.in_default-verdict.not-Accepted
+
+pub returns-in_err-push_section-clause-no_fault : goal.returns-in_err-push_section-clause-no_fault
+returns-in_err-push_section-clause-no_fault n c = let p = err_from_is_err_and c.from_residual-in_err-push_section.result c.from_residual-in_err-push_section.ensures.1 in rw p.1 tt
+
+pub returns-in_err-push_section-clause-says : goal.returns-in_err-push_section-clause-says
+returns-in_err-push_section-clause-says n c = let p = err_from_is_err_and c.from_residual-in_err-push_section.result c.from_residual-in_err-push_section.ensures.1 in rw p.1 tt
+
+pub returns-in_err-push_verdict-clause-no_fault : goal.returns-in_err-push_verdict-clause-no_fault
+returns-in_err-push_verdict-clause-no_fault n c = let p = err_from_is_err_and c.from_residual-in_err-push_verdict.result c.from_residual-in_err-push_verdict.ensures.1 in rw p.1 tt
+
+pub returns-in_err-push_verdict-clause-says : goal.returns-in_err-push_verdict-clause-says
+returns-in_err-push_verdict-clause-says n c = let p = err_from_is_err_and c.from_residual-in_err-push_verdict.result c.from_residual-in_err-push_verdict.ensures.1 in rw p.1 tt
+
+pub returns-in_err-verdict-clause-no_fault : goal.returns-in_err-verdict-clause-no_fault
+returns-in_err-verdict-clause-no_fault n c = let p = err_from_is_err_and c.from_residual.result c.from_residual.ensures.1 in rw p.1 tt
+
+pub returns-in_err-verdict-clause-says : goal.returns-in_err-verdict-clause-says
+returns-in_err-verdict-clause-says n c = let p = err_from_is_err_and c.from_residual.result c.from_residual.ensures.1 in rw p.1 tt

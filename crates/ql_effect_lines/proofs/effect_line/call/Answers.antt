@@ -1,3 +1,4 @@
+use Rattle.std.proofs.lemmas.Result.{err_from_is_err_and}
 use Rattle.std.proofs.Common.{◌∙◌, ℕ, List, codes, sym, ap, subst}
 use Rattle.std.proofs.lemmas.Option.{MatchOption-at_none, MatchOption-at_some}
 use Rattle.ql_lines.specs.Fields.{FirstField, fields_of}
@@ -29,3 +30,9 @@ returns-in-None c = λ args answer rest p.
     let mark = one_first p.past_args (codes "=") (codes "=") after_mark p.past_mark (subst (λ (t : List ℕ). FirstField t (codes "=") after_mark) same.1 c.in-Some-after_word.ensures) p.mark in
     let none = MatchOption-at_none ((v : Value) (rest : List ℕ) → FieldAt ValueAt v after_mark rest → ⊥) (λ x. FieldAt ValueAt x.0 after_mark x.1.now) c.in-None.is c.in_ok-answer.ensures in
     none answer rest (subst (λ (t : List ℕ). FieldAt ValueAt answer t rest) (sym mark.1) p.answered)
+
+pub returns-in_err-answer : goal.returns-in_err-answer
+returns-in_err-answer c = let p = err_from_is_err_and c.from_residual-in_err-answer.result c.from_residual-in_err-answer.ensures.1 in rw p.1 tt
+
+pub returns-in_err-args : goal.returns-in_err-args
+returns-in_err-args c = let p = err_from_is_err_and c.from_residual.result c.from_residual.ensures.1 in rw p.1 tt

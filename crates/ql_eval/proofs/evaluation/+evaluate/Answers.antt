@@ -1,3 +1,4 @@
+use Rattle.std.proofs.lemmas.Result.{err_from_is_err_and}
 use Rattle.std.proofs.Common.{◌≡◌, ◌<◌, ap, sym, refl, ◌∙◌, arith, length}
 use Rattle.std.proofs.lemmas.Bool.Decides.{nat_tests}
 use Rattle.ql_typing.specs.Functions.{function_named}
@@ -39,3 +40,36 @@ call_on-returns-in_ok-third t c =
 pub call_on-returns-else-args-eq3 : goal.call_on-returns-else-args-eq3
 call_on-returns-else-args-eq3 t c =
     rw c.in-Some.is (sym (more_others c.args.scope.now c.args.function c.in-Some.first.now c.args.args.now (omega arith) c.if-args-eq2.false c.if-args-eq3.false))
+
+pub call-returns-in_err-first : goal.call-returns-in_err-first
+call-returns-in_err-first t c = let p = err_from_is_err_and c.from_residual.result c.from_residual.ensures.1 in rw p.1 tt
+
+pub call_on-returns-in_err-second : goal.call_on-returns-in_err-second
+call_on-returns-in_err-second t c = let p = err_from_is_err_and c.from_residual.result c.from_residual.ensures.1 in rw p.1 tt
+
+pub call_on-returns-in_err-second-2 : goal.call_on-returns-in_err-second-2
+call_on-returns-in_err-second-2 t c = let p = err_from_is_err_and c.from_residual-in_err-second-2.result c.from_residual-in_err-second-2.ensures.1 in rw p.1 tt
+
+pub call_on-returns-in_err-third : goal.call_on-returns-in_err-third
+call_on-returns-in_err-third t c = let p = err_from_is_err_and c.from_residual-in_err-third.result c.from_residual-in_err-third.ensures.1 in rw p.1 tt
+
+pub evaluate-returns-in_err-evaluate-in-Neg : goal.evaluate-returns-in_err-evaluate-in-Neg
+evaluate-returns-in_err-evaluate-in-Neg t c = let p = err_from_is_err_and c.from_residual-in_err-evaluate-in-Neg.result c.from_residual-in_err-evaluate-in-Neg.ensures.1 in rw p.1 tt
+
+pub evaluate-returns-in_err-evaluate-in-Not : goal.evaluate-returns-in_err-evaluate-in-Not
+evaluate-returns-in_err-evaluate-in-Not t c = let p = err_from_is_err_and c.from_residual-in_err-evaluate-in-Not.result c.from_residual-in_err-evaluate-in-Not.ensures.1 in rw p.1 tt
+
+pub evaluate-returns-in_err-evaluate_truth-in-If : goal.evaluate-returns-in_err-evaluate_truth-in-If
+evaluate-returns-in_err-evaluate_truth-in-If t c = let p = err_from_is_err_and c.from_residual-in_err-evaluate_truth-in-If.result c.from_residual-in_err-evaluate_truth-in-If.ensures.1 in rw p.1 tt
+
+pub evaluate-returns-in_err-left-in-Binary : goal.evaluate-returns-in_err-left-in-Binary
+evaluate-returns-in_err-left-in-Binary t c = let p = err_from_is_err_and c.from_residual-in_err-left-in-Binary.result c.from_residual-in_err-left-in-Binary.ensures.1 in rw p.1 tt
+
+pub evaluate-returns-in_err-literal-in-Text : goal.evaluate-returns-in_err-literal-in-Text
+evaluate-returns-in_err-literal-in-Text t c = let p = err_from_is_err_and c.from_residual.result c.from_residual.ensures.1 in rw p.1 tt
+
+pub evaluate-returns-in_err-right-in-Binary : goal.evaluate-returns-in_err-right-in-Binary
+evaluate-returns-in_err-right-in-Binary t c = let p = err_from_is_err_and c.from_residual-in_err-right-in-Binary.result c.from_residual-in_err-right-in-Binary.ensures.1 in rw p.1 tt
+
+pub evaluate_truth-returns-in_err-value : goal.evaluate_truth-returns-in_err-value
+evaluate_truth-returns-in_err-value t c = let p = err_from_is_err_and c.from_residual.result c.from_residual.ensures.1 in rw p.1 tt

@@ -1,3 +1,4 @@
+use Rattle.std.proofs.lemmas.Result.{err_from_is_err_and}
 use Rattle.std.proofs.Common.{◌+◌, List, [], ◌∷◌, ◌++◌, sym, ap, ◌∙◌}
 use Rattle.ql_machine.specs.declared.event.Event.{Event}
 use Rattle.ql_gen.specs.Events.{after_event, event_of}
@@ -15,3 +16,9 @@ loop-k-preserved c =
           ∙ sym (events_step p c.args.number k),
       c.in_ok-draw_event.ensures.state ∙ ap (after_event p) before.1 ∙ sym (state_step p c.args.number k),
     )
+
+pub returns-in_err-draw_event : goal.returns-in_err-draw_event
+returns-in_err-draw_event c = let p = err_from_is_err_and c.from_residual.result c.from_residual.ensures.1 in rw p.1 tt
+
+pub returns-in_err-push : goal.returns-in_err-push
+returns-in_err-push c = let p = err_from_is_err_and c.from_residual-in_err-push.result c.from_residual-in_err-push.ensures.1 in rw p.1 tt

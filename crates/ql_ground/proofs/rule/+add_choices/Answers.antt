@@ -34,7 +34,7 @@ add_choices-requires t c =
                 c.requires.hypotheses,
                 (
                   c.requires.conclusions,
-                  c.loop-k.invariant.variables ∙ c.requires.variables,
+                  rw c.loop-k.invariant.variables c.requires.variables,
                 ),
               ),
             ),

@@ -1,8 +1,8 @@
 use Rattle.std.proofs.Common.{◌+◌, length, inl, sym, subst}
 use Rattle.std.proofs.lemmas.Result.{on_err_weaker, on_ok_weaker}
-use Rattle.ql_disk.specs.Bytes.{MayLeave}
-use Rattle.ql_disk.proofs.Lasting.{after_failure}
-use Rattle.ql_disk.proofs.Stops.{joined, weaker}
+use Rattle.ql_journal.specs.Bytes.{MayLeave}
+use Rattle.ql_journal.proofs.Lasting.{after_failure}
+use Rattle.ql_journal.proofs.Stops.{joined, weaker}
 use Rattle.ql_journal.specs.Images.{IsBeforeOrAfter}
 use Rattle.ql_journal.specs.Records.{HasRecords}
 use Rattle.ql_journal.proofs.AppendingLaws.{staged, opened, whole}

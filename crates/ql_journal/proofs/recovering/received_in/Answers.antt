@@ -1,3 +1,4 @@
+use Rattle.std.proofs.lemmas.Result.{err_from_is_err_and}
 use Rattle.std.proofs.Common.{◌+◌, ◌*◌, length, drop, ap, sym, subst, ◌∙◌, arith}
 use Rattle.std.proofs.lemmas.Bool.{eqb-false}
 use Rattle.std.proofs.lemmas.Option.{MatchOption-at_some}
@@ -27,3 +28,9 @@ pub returns-clause-recovers : goal.returns-clause-recovers
 returns-clause-recovers g c =
     finish g.H.Holder.received c.args.x.now c.args.committed.now c.args.bytes.now c.loop-entry.holder c.loop-entry.rest.now c.loop-entry.invariant.reads c.in_default.ensures
     (eqb-false (length c.loop-entry.rest.now) 0 (sym c.is_empty.ensures ∙ c.if-is_empty.false))
+
+pub returns-in_err-ids-clause-fits : goal.returns-in_err-ids-clause-fits
+returns-in_err-ids-clause-fits g c = let p = err_from_is_err_and c.from_residual.result c.from_residual.ensures.1 in rw p.1 tt
+
+pub returns-in_err-receive-clause-fits : goal.returns-in_err-receive-clause-fits
+returns-in_err-receive-clause-fits g c = let p = err_from_is_err_and c.from_residual-in_err-receive.result c.from_residual-in_err-receive.ensures.1 in rw p.1 tt

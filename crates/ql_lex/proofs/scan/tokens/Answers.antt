@@ -1,3 +1,4 @@
+use Rattle.std.proofs.lemmas.Result.{err_from_is_err_and}
 use Rattle.ql_lex.proofs.Steps.{at_no_token, at_too_long, at_no_number}
 use Rattle.ql_lex.proofs.scan.tokens.Goals as goal
 
@@ -9,3 +10,6 @@ returns-in-TooLong-clause-exact c = at_too_long c.args.bytes.now c.loop-at.at c.
 
 pub returns-in-NoNumber-clause-exact : goal.returns-in-NoNumber-clause-exact
 returns-in-NoNumber-clause-exact c = at_no_number c.args.bytes.now c.loop-at.at c.loop-at.found.items c.loop-at.invariant.1 c.in-NoNumber.ensures.kind
+
+pub returns-in_err-push-in-Lexeme-clause-spans : goal.returns-in_err-push-in-Lexeme-clause-spans
+returns-in_err-push-in-Lexeme-clause-spans c = let p = err_from_is_err_and c.from_residual.result c.from_residual.ensures.1 in rw p.1 tt

@@ -1,3 +1,4 @@
+use Rattle.std.proofs.lemmas.Result.{err_from_is_err_and}
 use Rattle.std.proofs.Common.{◌+◌, ◌<◌, ◌≤◌, List, length, get_or, refl, subst, sym}
 use Rattle.ql_ranges.specs.Places.{Adds, IsPlace}
 use Rattle.ql_ranges.specs.declared.ranges.IdRange.{IdRange}
@@ -21,3 +22,6 @@ returns-in_ok-insert-clause-added c = adds-ids c.args.ranges.now.items c.args.id
 
 pub returns-else-is_free-clause-added : goal.returns-else-is_free-clause-added
 returns-else-is_free-clause-added c = adds-ids c.args.ranges.now.items c.args.id c.widen.new.ranges.items c.requires c.widen.ensures
+
+pub returns-in_err-insert-clause-added : goal.returns-in_err-insert-clause-added
+returns-in_err-insert-clause-added c = let p = err_from_is_err_and c.from_residual.result c.from_residual.ensures.1 in rw p.1 tt

@@ -1,7 +1,7 @@
 use Rattle.std.proofs.Common.{◌≡◌, ◌≤◌, ◌+◌, ℕ, false, List, length, Ok, Err, refl, sym, ◌∙◌, ap, subst, ⊎_elim, arith}
 use Rattle.std.proofs.lemmas.Bool.{false≢true, false_from_ne_true}
 use Rattle.std.proofs.lemmas.Result.{err_from_is_err_and}
-use Rattle.ql_disk.specs.MemDisks.{content_of, forecast_of, room_of}
+use Rattle.ql_journal.specs.MemDisks.{content_of, forecast_of, room_of}
 use Rattle.ql_holder.specs.Arrivals.{IsArrival}
 use Rattle.ql_journal.specs.declared.why.StationWhy.{StationWhy}
 use Rattle.ql_journal.specs.declared.why.StationWhy.TheVariants as why

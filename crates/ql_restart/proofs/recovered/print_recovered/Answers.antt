@@ -1,7 +1,7 @@
 use Rattle.std.proofs.Common.{◌≤◌, ◌-◌, ◌++◌, ℕ, List, codes, sym, ◌∙◌, ap, subst}
 use Rattle.std.proofs.lemmas.Option.{MatchOption-at_none, MatchOption-at_some}
 use Rattle.std.proofs.lemmas.Result.{IfOk-weaker}
-use Rattle.ql_disk.specs.MemDisks.{content_of}
+use Rattle.ql_journal.specs.MemDisks.{content_of}
 use Rattle.ql_exec.specs.declared.effect.Effect.{Effect}
 use Rattle.ql_holder.specs.Arrivals.{Applied}
 use Rattle.ql_journal.specs.Stations.{holder_of}

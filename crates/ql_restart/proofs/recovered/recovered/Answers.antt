@@ -1,5 +1,5 @@
 use Rattle.std.proofs.Common.{List, ℕ, ◌∙◌, ap}
-use Rattle.ql_disk.specs.MemDisks.{content_of}
+use Rattle.ql_journal.specs.MemDisks.{content_of}
 use Rattle.ql_journal.specs.Records.{in_records}
 use Rattle.ql_journal.proofs.EndLaws.{one_list}
 use Rattle.ql_restart.proofs.recovered.recovered.Goals as goal

@@ -1,3 +1,4 @@
+use Rattle.std.proofs.lemmas.Result.{err_from_is_err_and}
 use Rattle.std.proofs.Common.{◌++◌, ◌∷◌, [], List, ℕ, codes, decimal, map, ap, ◌∙◌}
 use Rattle.ql_lines.specs.Fields.{Fields}
 use Rattle.ql_lines.specs.Texts.{spaced_fields}
@@ -26,3 +27,39 @@ returns-clause-text c =
 pub returns-clause-values : goal.returns-clause-values
 returns-clause-values c = on_ok c.push_bytes-2.result
     (λ e. record { args = c.in_ok-push_call.ensures.args; answer = c.in_ok-push_call.ensures.answer; payload = c.in_ok-push_payload.ensures.values }) c.push_bytes-2.ensures.ok
+
+pub returns-in_err-push_bytes-clause-text : goal.returns-in_err-push_bytes-clause-text
+returns-in_err-push_bytes-clause-text c = let p = err_from_is_err_and c.from_residual-in_err-push_bytes.result c.from_residual-in_err-push_bytes.ensures.1 in rw p.1 tt
+
+pub returns-in_err-push_bytes-clause-values : goal.returns-in_err-push_bytes-clause-values
+returns-in_err-push_bytes-clause-values c = let p = err_from_is_err_and c.from_residual-in_err-push_bytes.result c.from_residual-in_err-push_bytes.ensures.1 in rw p.1 tt
+
+pub returns-in_err-push_call-clause-text : goal.returns-in_err-push_call-clause-text
+returns-in_err-push_call-clause-text c = let p = err_from_is_err_and c.from_residual-in_err-push_call.result c.from_residual-in_err-push_call.ensures.1 in rw p.1 tt
+
+pub returns-in_err-push_call-clause-values : goal.returns-in_err-push_call-clause-values
+returns-in_err-push_call-clause-values c = let p = err_from_is_err_and c.from_residual-in_err-push_call.result c.from_residual-in_err-push_call.ensures.1 in rw p.1 tt
+
+pub returns-in_err-push_each_id-clause-text : goal.returns-in_err-push_each_id-clause-text
+returns-in_err-push_each_id-clause-text c = let p = err_from_is_err_and c.from_residual-in_err-push_each_id.result c.from_residual-in_err-push_each_id.ensures.1 in rw p.1 tt
+
+pub returns-in_err-push_each_id-clause-values : goal.returns-in_err-push_each_id-clause-values
+returns-in_err-push_each_id-clause-values c = let p = err_from_is_err_and c.from_residual-in_err-push_each_id.result c.from_residual-in_err-push_each_id.ensures.1 in rw p.1 tt
+
+pub returns-in_err-push_heading-clause-text : goal.returns-in_err-push_heading-clause-text
+returns-in_err-push_heading-clause-text c = let p = err_from_is_err_and c.from_residual.result c.from_residual.ensures.1 in rw p.1 tt
+
+pub returns-in_err-push_heading-clause-values : goal.returns-in_err-push_heading-clause-values
+returns-in_err-push_heading-clause-values c = let p = err_from_is_err_and c.from_residual.result c.from_residual.ensures.1 in rw p.1 tt
+
+pub returns-in_err-push_payload-clause-text : goal.returns-in_err-push_payload-clause-text
+returns-in_err-push_payload-clause-text c = let p = err_from_is_err_and c.from_residual-in_err-push_payload.result c.from_residual-in_err-push_payload.ensures.1 in rw p.1 tt
+
+pub returns-in_err-push_payload-clause-values : goal.returns-in_err-push_payload-clause-values
+returns-in_err-push_payload-clause-values c = let p = err_from_is_err_and c.from_residual-in_err-push_payload.result c.from_residual-in_err-push_payload.ensures.1 in rw p.1 tt
+
+pub returns-in_err-push_session-clause-text : goal.returns-in_err-push_session-clause-text
+returns-in_err-push_session-clause-text c = let p = err_from_is_err_and c.from_residual-in_err-push_session.result c.from_residual-in_err-push_session.ensures.1 in rw p.1 tt
+
+pub returns-in_err-push_session-clause-values : goal.returns-in_err-push_session-clause-values
+returns-in_err-push_session-clause-values c = let p = err_from_is_err_and c.from_residual-in_err-push_session.result c.from_residual-in_err-push_session.ensures.1 in rw p.1 tt

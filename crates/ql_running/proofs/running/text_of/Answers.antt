@@ -1,5 +1,5 @@
 use Rattle.std.proofs.Common.{List, ℕ, length, sym, subst}
-use Rattle.std.proofs.lemmas.Result.{IfOk-weaker}
+use Rattle.std.proofs.lemmas.Result.{err_from_is_err_and, IfOk-weaker}
 use Rattle.ql_exec.specs.declared.effect.Effect.{Effect}
 use Rattle.ql_run_text.specs.EffectTexts.{AreNamed}
 use Rattle.ql_run_text.specs.ReplyTexts.{AreAnswered}
@@ -43,3 +43,6 @@ returns c =
       };
     })
     c.print_in.ensures
+
+pub returns-in_err-run : goal.returns-in_err-run
+returns-in_err-run c = let p = err_from_is_err_and c.from_residual.result c.from_residual.ensures.1 in rw p.1 tt

@@ -1,3 +1,4 @@
+use Rattle.std.proofs.lemmas.Result.{err_from_is_err_and}
 use Rattle.std.proofs.Common.{refl, sym, ap}
 use Rattle.ql_running.specs.Stores.{rules_of}
 use Rattle.ql_machine.specs.Runs.{IsRun}
@@ -30,3 +31,45 @@ returns-clause-answered c =
     let rules = rules_of c.args.t.now.program c.args.levels.now in
     let steps : IsRun rules c.args.schedule.replicas c.args.schedule.events run.replies.items run.store.machine = c.in_ok-run.ensures.run rules (ap promises_of (sym c.in_ok-same.ensures)) refl refl in
     run-answers rules c.args.schedule.replicas c.args.schedule.events run.replies.items run.store.machine steps
+
+pub returns-in_err-run-clause-answered : goal.returns-in_err-run-clause-answered
+returns-in_err-run-clause-answered c = let p = err_from_is_err_and c.from_residual-in_err-run.result c.from_residual-in_err-run.ensures.1 in rw p.1 tt
+
+pub returns-in_err-run-clause-fits : goal.returns-in_err-run-clause-fits
+returns-in_err-run-clause-fits c = let p = err_from_is_err_and c.from_residual-in_err-run.result c.from_residual-in_err-run.ensures.1 in rw p.1 tt
+
+pub returns-in_err-run-clause-named : goal.returns-in_err-run-clause-named
+returns-in_err-run-clause-named c = let p = err_from_is_err_and c.from_residual-in_err-run.result c.from_residual-in_err-run.ensures.1 in rw p.1 tt
+
+pub returns-in_err-run-clause-objects : goal.returns-in_err-run-clause-objects
+returns-in_err-run-clause-objects c = let p = err_from_is_err_and c.from_residual-in_err-run.result c.from_residual-in_err-run.ensures.1 in rw p.1 tt
+
+pub returns-in_err-run-clause-replicas : goal.returns-in_err-run-clause-replicas
+returns-in_err-run-clause-replicas c = let p = err_from_is_err_and c.from_residual-in_err-run.result c.from_residual-in_err-run.ensures.1 in rw p.1 tt
+
+pub returns-in_err-run-clause-run : goal.returns-in_err-run-clause-run
+returns-in_err-run-clause-run c = let p = err_from_is_err_and c.from_residual-in_err-run.result c.from_residual-in_err-run.ensures.1 in rw p.1 tt
+
+pub returns-in_err-run-clause-sound : goal.returns-in_err-run-clause-sound
+returns-in_err-run-clause-sound c = let p = err_from_is_err_and c.from_residual-in_err-run.result c.from_residual-in_err-run.ensures.1 in rw p.1 tt
+
+pub returns-in_err-same-clause-answered : goal.returns-in_err-same-clause-answered
+returns-in_err-same-clause-answered c = let p = err_from_is_err_and c.from_residual.result c.from_residual.ensures.1 in rw p.1 tt
+
+pub returns-in_err-same-clause-fits : goal.returns-in_err-same-clause-fits
+returns-in_err-same-clause-fits c = let p = err_from_is_err_and c.from_residual.result c.from_residual.ensures.1 in rw p.1 tt
+
+pub returns-in_err-same-clause-named : goal.returns-in_err-same-clause-named
+returns-in_err-same-clause-named c = let p = err_from_is_err_and c.from_residual.result c.from_residual.ensures.1 in rw p.1 tt
+
+pub returns-in_err-same-clause-objects : goal.returns-in_err-same-clause-objects
+returns-in_err-same-clause-objects c = let p = err_from_is_err_and c.from_residual.result c.from_residual.ensures.1 in rw p.1 tt
+
+pub returns-in_err-same-clause-replicas : goal.returns-in_err-same-clause-replicas
+returns-in_err-same-clause-replicas c = let p = err_from_is_err_and c.from_residual.result c.from_residual.ensures.1 in rw p.1 tt
+
+pub returns-in_err-same-clause-run : goal.returns-in_err-same-clause-run
+returns-in_err-same-clause-run c = let p = err_from_is_err_and c.from_residual.result c.from_residual.ensures.1 in rw p.1 tt
+
+pub returns-in_err-same-clause-sound : goal.returns-in_err-same-clause-sound
+returns-in_err-same-clause-sound c = let p = err_from_is_err_and c.from_residual.result c.from_residual.ensures.1 in rw p.1 tt

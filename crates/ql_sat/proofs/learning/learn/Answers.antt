@@ -1,3 +1,4 @@
+use Rattle.std.proofs.lemmas.Result.{err_from_is_err_and}
 use Rattle.std.proofs.Common.{◌≡◌, ◌+◌, Some, take, ap, sym, ◌∙◌}
 use Rattle.std.specs.Prelude.{reverse}
 use Rattle.ql_refute.specs.Marks.{marked}
@@ -69,3 +70,18 @@ returns c =
       turn = tt;
       number = λ e. learned_greater c.args.c.now c.args.search.now.lines.items c.args.search.now.trail.steps.items c.read_learned.new.trail.steps.items c.args.search.now.trail.marks.items c.in-Some.to c.analyze.new.analysis.seen.items c.requires.sound first.asserting longer;
     }
+
+pub returns-in_err-clause : goal.returns-in_err-clause
+returns-in_err-clause c = let p = err_from_is_err_and c.from_residual-in_err-clause.result c.from_residual-in_err-clause.ensures.1 in rw p.1 tt
+
+pub returns-in_err-found : goal.returns-in_err-found
+returns-in_err-found c = let p = err_from_is_err_and c.from_residual.result c.from_residual.ensures.1 in rw p.1 tt
+
+pub returns-in_err-number : goal.returns-in_err-number
+returns-in_err-number c = let p = err_from_is_err_and c.from_residual-in_err-number.result c.from_residual-in_err-number.ensures.1 in rw p.1 tt
+
+pub returns-in_err-read_learned : goal.returns-in_err-read_learned
+returns-in_err-read_learned c = let p = err_from_is_err_and c.from_residual-in_err-read_learned.result c.from_residual-in_err-read_learned.ensures.1 in rw p.1 tt
+
+pub returns-in_err-watch : goal.returns-in_err-watch
+returns-in_err-watch c = let p = err_from_is_err_and c.from_residual-in_err-watch.result c.from_residual-in_err-watch.ensures.1 in rw p.1 tt

@@ -1,3 +1,4 @@
+use Rattle.std.proofs.lemmas.Result.{err_from_is_err_and}
 use Rattle.std.proofs.Common.{add-one}
 use Rattle.std.proofs.lemmas.Bool.{both_ways}
 use Rattle.ql_holder.specs.Arrivals.{Applied}
@@ -16,3 +17,6 @@ loop-a-preserved g c =
       | else-applied w ↦ rw (w.found-is, add-one)
           (λ x fits. those-same ids (Applied x received) k c.loop-a.found c.loop-a-test.true (λ applied. both_ways c.applied.result w.if-applied.false ((c.applied.ensures x fits).1 applied)) (c.loop-a.invariant x fits))
     ]
+
+pub returns-in_err-insert : goal.returns-in_err-insert
+returns-in_err-insert g c = let p = err_from_is_err_and c.from_residual.result c.from_residual.ensures.1 in rw p.1 tt

@@ -1,3 +1,4 @@
+use Rattle.std.proofs.lemmas.Result.{err_from_is_err_and}
 use Rattle.std.proofs.Common.{◌≡◌, ◌<◌, ◌++◌, List, ℕ, All, codes, length, sym, subst, ap, ◌∙◌}
 use Rattle.ql_exec.specs.declared.effect.Effect.{Effect}
 use Rattle.ql_machine.specs.Sets.{AreThose}
@@ -33,3 +34,21 @@ returns c =
       are_answers = answers.1;
       is = c.in_ok-push_bytes.ensures.ok ∙ ap (λ (t : List ℕ). t ++ codes "end\n") (answers.2 ∙ ap (λ (t : List ℕ). t ++ answers.0) first);
     }
+
+pub returns-in_err-kept : goal.returns-in_err-kept
+returns-in_err-kept c = let p = err_from_is_err_and c.from_residual.result c.from_residual.ensures.1 in rw p.1 tt
+
+pub returns-in_err-push_answers : goal.returns-in_err-push_answers
+returns-in_err-push_answers c = let p = err_from_is_err_and c.from_residual-in_err-push_answers.result c.from_residual-in_err-push_answers.ensures.1 in rw p.1 tt
+
+pub returns-in_err-push_bytes : goal.returns-in_err-push_bytes
+returns-in_err-push_bytes c = let p = err_from_is_err_and c.from_residual-in_err-push_bytes.result c.from_residual-in_err-push_bytes.ensures.1 in rw p.1 tt
+
+pub returns-in_err-push_kept : goal.returns-in_err-push_kept
+returns-in_err-push_kept c = let p = err_from_is_err_and c.from_residual-in_err-push_kept.result c.from_residual-in_err-push_kept.ensures.1 in rw p.1 tt
+
+pub returns-in_err-small : goal.returns-in_err-small
+returns-in_err-small c = let p = err_from_is_err_and c.from_residual-in_err-small.result c.from_residual-in_err-small.ensures.1 in rw p.1 tt
+
+pub returns-in_err-stable : goal.returns-in_err-stable
+returns-in_err-stable c = let p = err_from_is_err_and c.from_residual-in_err-stable.result c.from_residual-in_err-stable.ensures.1 in rw p.1 tt

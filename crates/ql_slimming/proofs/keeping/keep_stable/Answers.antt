@@ -1,3 +1,4 @@
+use Rattle.std.proofs.lemmas.Result.{err_from_is_err_and}
 use Rattle.std.proofs.Common.{◌<◌, length, refl, sym, subst, inl, arith}
 use Rattle.ql_base.specs.declared.ids.ObjId.{ObjId}
 use Rattle.ql_machine.specs.Sets.{AreThose}
@@ -35,3 +36,39 @@ loop-o-preserved c =
     let those : AreThose (IsStable s o) c.in_ok-more.more = c.in_ok-more.ensures s (sym c.execution.ensures) views in
     let done = c.in_ok-advance.ensures in
     keeping_goes p s (length c.args.kinds.now) c.loop-o.o c.loop-o.kept c.advance.new.self o c.in_ok-more.more refl c.loop-o.invariant those done.count (done.stands s.effects c.loop-o.invariant.stands (inl c.execution-in-loop-o.ensures)) done.gained done.others
+
+pub returns-in_err-advance-clause-count : goal.returns-in_err-advance-clause-count
+returns-in_err-advance-clause-count c = let p = err_from_is_err_and c.from_residual-in_err-advance.result c.from_residual-in_err-advance.ensures.1 in rw p.1 tt
+
+pub returns-in_err-advance-clause-stable : goal.returns-in_err-advance-clause-stable
+returns-in_err-advance-clause-stable c = let p = err_from_is_err_and c.from_residual-in_err-advance.result c.from_residual-in_err-advance.ensures.1 in rw p.1 tt
+
+pub returns-in_err-advance-clause-stands : goal.returns-in_err-advance-clause-stands
+returns-in_err-advance-clause-stands c = let p = err_from_is_err_and c.from_residual-in_err-advance.result c.from_residual-in_err-advance.ensures.1 in rw p.1 tt
+
+pub returns-in_err-kept-clause-count : goal.returns-in_err-kept-clause-count
+returns-in_err-kept-clause-count c = let p = err_from_is_err_and c.from_residual.result c.from_residual.ensures.1 in rw p.1 tt
+
+pub returns-in_err-kept-clause-stable : goal.returns-in_err-kept-clause-stable
+returns-in_err-kept-clause-stable c = let p = err_from_is_err_and c.from_residual.result c.from_residual.ensures.1 in rw p.1 tt
+
+pub returns-in_err-kept-clause-stands : goal.returns-in_err-kept-clause-stands
+returns-in_err-kept-clause-stands c = let p = err_from_is_err_and c.from_residual.result c.from_residual.ensures.1 in rw p.1 tt
+
+pub returns-in_err-more-clause-count : goal.returns-in_err-more-clause-count
+returns-in_err-more-clause-count c = let p = err_from_is_err_and c.from_residual-in_err-more.result c.from_residual-in_err-more.ensures.1 in rw p.1 tt
+
+pub returns-in_err-more-clause-stable : goal.returns-in_err-more-clause-stable
+returns-in_err-more-clause-stable c = let p = err_from_is_err_and c.from_residual-in_err-more.result c.from_residual-in_err-more.ensures.1 in rw p.1 tt
+
+pub returns-in_err-more-clause-stands : goal.returns-in_err-more-clause-stands
+returns-in_err-more-clause-stands c = let p = err_from_is_err_and c.from_residual-in_err-more.result c.from_residual-in_err-more.ensures.1 in rw p.1 tt
+
+pub returns-in_err-views-clause-count : goal.returns-in_err-views-clause-count
+returns-in_err-views-clause-count c = let p = err_from_is_err_and c.from_residual-in_err-views.result c.from_residual-in_err-views.ensures.1 in rw p.1 tt
+
+pub returns-in_err-views-clause-stable : goal.returns-in_err-views-clause-stable
+returns-in_err-views-clause-stable c = let p = err_from_is_err_and c.from_residual-in_err-views.result c.from_residual-in_err-views.ensures.1 in rw p.1 tt
+
+pub returns-in_err-views-clause-stands : goal.returns-in_err-views-clause-stands
+returns-in_err-views-clause-stands c = let p = err_from_is_err_and c.from_residual-in_err-views.result c.from_residual-in_err-views.ensures.1 in rw p.1 tt

@@ -1,3 +1,4 @@
+use Rattle.std.proofs.lemmas.Result.{err_from_is_err_and}
 use Rattle.std.proofs.Common.{◌++◌, length, map, sym, ◌∙◌, subst, List, ℕ, ◌≡◌, true}
 use Rattle.ql_exec.specs.Relations.{inside}
 use Rattle.ql_machine.specs.Changes.{package_to_others, received_by}
@@ -42,3 +43,6 @@ returns-in_ok-spread_all-in-Some-clause-step g c = λ rules.
 
 pub returns-in_ok-spread_all-in-Some-clause-known : goal.returns-in_ok-spread_all-in-Some-clause-known
 returns-in_ok-spread_all-in-Some-clause-known g c = known-finished c.args.x.now c.args.shim.now c.finish.new.self c.args.session c.finish.ensures.finished c.requires.state.2.known
+
+pub returns-in_err-spread_all-in-Some-clause-step : goal.returns-in_err-spread_all-in-Some-clause-step
+returns-in_err-spread_all-in-Some-clause-step g c = let p = err_from_is_err_and c.from_residual.result c.from_residual.ensures.1 in rw p.1 tt

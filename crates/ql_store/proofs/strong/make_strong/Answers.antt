@@ -1,7 +1,9 @@
 use Rattle.std.proofs.lemmas.Result.{err_from_is_err_and}
-use Rattle.std.proofs.Common.{◌≡◌, ◌<◌, true, ◌∷◌, [], ℕ, List, length, slice_index_or, subst, sym}
+use Rattle.std.proofs.Common.{◌≡◌, ◌<◌, true, ◌∷◌, [], ℕ, List, length, slice_index_or, map, subst, sym}
 use Rattle.ql_exec.specs.declared.effect.Effect.{Effect}
 use Rattle.ql_exec.specs.Execution.{effect_of}
+use Rattle.ql_base.specs.declared.ids.EffId.{EffId}
+use Rattle.ql_machine.specs.Changes.{received_by_all}
 use Rattle.ql_machine.specs.Sets.{AreThose}
 use Rattle.ql_machine.specs.State.{committed}
 use Rattle.ql_holder.specs.Closed.{Has}
@@ -72,3 +74,29 @@ returns-in_err-id-clause-received g c = let p = err_from_is_err_and c.from_resid
 
 pub returns-in_err-id-clause-reply : goal.returns-in_err-id-clause-reply
 returns-in_err-id-clause-reply g c = let p = err_from_is_err_and c.from_residual-in_err-id.result c.from_residual-in_err-id.ensures.1 in rw p.1 tt
+
+pub returns-clause-fit : goal.returns-clause-fit
+returns-clause-fit g c = c.in-Ok.ensures.fit
+
+pub returns-clause-made : goal.returns-clause-made
+returns-clause-made g c = c.in_ok-id.ensures.made
+
+pub returns-clause-noted : goal.returns-clause-noted
+returns-clause-noted g c = c.in_ok-id.ensures.noted
+
+pub returns-clause-received : goal.returns-clause-received
+returns-clause-received g c =
+    let ids = subst (λ (y : List Effect). AreThose (λ a. committed y (open_txns c.args.shim.now) a ≡ true) c.in_ok-done.done) c.effects.ensures.same c.in_ok-done.ensures in
+    let before : List g.row.H.Denot → List (List ℕ) = λ hs. received_by_all (map g.H.Holder.received hs) c.in_ok-done.done in
+    let after = subst (λ (hs : List g.row.H.Denot). map g.H.Holder.received c.in-Ok.synced.items ≡ received_by_all (before hs) (c.in_ok-id.id.0 ∷ [])) c.deref.ensures.value c.in-Ok.ensures.received in
+    (c.in_ok-done.done, ids, subst (λ (id : EffId). map g.H.Holder.received c.in-Ok.synced.items ≡ received_by_all (before c.args.holders.now.items) (id.0 ∷ [])) c.in_ok-id.ensures.number after)
+
+pub returns-in-Err-clause-same : goal.returns-in-Err-clause-same
+returns-in-Err-clause-same g c =
+    popped c.args.x.now c.push_noted.new.x c.pop.new.self (effect_of c.args.x.now c.args.draft) c.in_ok-id.ensures.made c.pop.ensures
+
+pub push_noted-requires-clause-lawful : goal.push_noted-requires-clause-lawful
+push_noted-requires-clause-lawful g c = c.requires.lawful
+
+pub push_noted-requires-clause-noted : goal.push_noted-requires-clause-noted
+push_noted-requires-clause-noted g c = c.requires.noted

@@ -1,3 +1,4 @@
+use Rattle.std.proofs.lemmas.Result.{err_from_is_err_and}
 use Rattle.std.proofs.Common.{◌≡◌, ◌+◌, ap, arith, drop, length, sym, subst, ◌∙◌}
 use Rattle.std.proofs.lemmas.List.{map-id}
 use Rattle.ql_typing.specs.Faults.{names_met}
@@ -27,3 +28,6 @@ number_each-requires c =
     let met = subst (λ vs. ops_met c.loop-var.ops vs ≡ ops_met c.args.ops.now c.args.vars.now) here c.loop-var.invariant.met in
     let grown = ops_grow (names_met c.loop-var.ops c.var-item.result.ops) (drop (c.loop-var.var-index + 1) c.args.vars.now) in
     rw (c.items.ensures, map-id) (omega (arith, grown, ap length met, c.requires))
+
+pub returns-in_err-number_each-clause-numbered : goal.returns-in_err-number_each-clause-numbered
+returns-in_err-number_each-clause-numbered c = let p = err_from_is_err_and c.from_residual.result c.from_residual.ensures.1 in rw p.1 tt

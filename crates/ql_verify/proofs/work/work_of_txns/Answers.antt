@@ -1,3 +1,4 @@
+use Rattle.std.proofs.lemmas.Result.{err_from_is_err_and}
 use Rattle.std.proofs.Common.{arith, length, refl}
 use Rattle.std.proofs.lemmas.List.{length-map}
 use Rattle.ql_lang.specs.Formulas.{resolved_of}
@@ -17,3 +18,9 @@ pub returns-clause-sum : goal.returns-clause-sum
 returns-clause-sum c =
     all_work (length c.args.effects.now) (λ d. length (runs_of c.args.effects.now d)) c.loop-d.work c.loop-d.d (txn_contracts c.args.t.now.program)
     (omega (arith, c.loop-d-test.false, c.txns-d-end.ensures.count, length-map c.args.t.now.program.txns (txn_contract (op_words c.args.t.now.program.types)))) c.loop-d.invariant.0
+
+pub returns-in_err-runs-clause-bounded : goal.returns-in_err-runs-clause-bounded
+returns-in_err-runs-clause-bounded c = let p = err_from_is_err_and c.from_residual.result c.from_residual.ensures.1 in rw p.1 tt
+
+pub returns-in_err-runs-clause-sum : goal.returns-in_err-runs-clause-sum
+returns-in_err-runs-clause-sum c = let p = err_from_is_err_and c.from_residual.result c.from_residual.ensures.1 in rw p.1 tt

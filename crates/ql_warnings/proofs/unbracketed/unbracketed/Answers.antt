@@ -1,3 +1,4 @@
+use Rattle.std.proofs.lemmas.Result.{err_from_is_err_and}
 use Rattle.std.proofs.Common.{arith}
 use Rattle.ql_warnings.proofs.Joining.{all_bracketed, lexed_at}
 use Rattle.ql_warnings.proofs.unbracketed.unbracketed.Goals as goal
@@ -12,3 +13,6 @@ pub returns : goal.returns
 returns c =
     all_bracketed c.one_answer.ensures.one c.args.lexed.now c.args.extent.start c.args.extent.end c.tokens-tokens.result.now c.loop-k.k c.loop-k.found.items
     c.tokens-tokens.ensures (omega arith) c.loop-k.invariant
+
+pub returns-in_err-push_joined : goal.returns-in_err-push_joined
+returns-in_err-push_joined c = let p = err_from_is_err_and c.from_residual.result c.from_residual.ensures.1 in rw p.1 tt

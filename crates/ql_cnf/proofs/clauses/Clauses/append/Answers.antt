@@ -1,3 +1,4 @@
+use Rattle.std.proofs.lemmas.Result.{err_from_is_err_and}
 use Rattle.std.proofs.Common.{◌≡◌, arith, length, sym, ◌∙◌, length-append, ◌<◌, ◌+◌, ◌^◌}
 use Rattle.ql_cnf.proofs.Truth.{added_in_range}
 use Rattle.ql_cnf.proofs.clauses.Clauses.append.Goals as goal
@@ -13,3 +14,15 @@ invariant_of-self-in-Some c =
       numbered = rw length-append (omega arith);
       counted = c.self.invariant.counted;
     })
+
+pub returns-in_err-clause-clause-added : goal.returns-in_err-clause-clause-added
+returns-in_err-clause-clause-added c = let p = err_from_is_err_and c.from_residual.result c.from_residual.ensures.1 in rw p.1 tt
+
+pub returns-in_err-clause-clause-new : goal.returns-in_err-clause-clause-new
+returns-in_err-clause-clause-new c = let p = err_from_is_err_and c.from_residual.result c.from_residual.ensures.1 in rw p.1 tt
+
+pub returns-in_err-push-in-Some-clause-added : goal.returns-in_err-push-in-Some-clause-added
+returns-in_err-push-in-Some-clause-added c = let p = err_from_is_err_and c.from_residual-in_err-push-in-Some.result c.from_residual-in_err-push-in-Some.ensures.1 in rw p.1 tt
+
+pub returns-in_err-push-in-Some-clause-new : goal.returns-in_err-push-in-Some-clause-new
+returns-in_err-push-in-Some-clause-new c = let p = err_from_is_err_and c.from_residual-in_err-push-in-Some.result c.from_residual-in_err-push-in-Some.ensures.1 in rw p.1 tt

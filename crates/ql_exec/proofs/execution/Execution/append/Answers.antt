@@ -1,3 +1,4 @@
+use Rattle.std.proofs.lemmas.Result.{err_from_is_err_and}
 use Rattle.std.proofs.Common.{◌≡◌, ◌++◌, ◌∷◌, [], ℕ, suc, length-append, ◌+◌, ◌<◌, ◌^◌, length, ap, arith, ◌∙◌}
 use Rattle.ql_exec.specs.Execution.{IsExecution}
 use Rattle.ql_exec.specs.Latest.{latest_of, with_latest, IsLastOf}
@@ -41,3 +42,12 @@ invariant_of-self-2 c =
       HasLinks-push c.self.inside.links.items x effect c.args.before last c.self.invariant.3,
       KnowsRuns-push c.make_room.new.runs x effect c.in_ok-make_room.ensures.run (c.make_room.ensures.runs x c.self.invariant.4),
     )
+
+pub returns-in_err-make_room-clause-pushed : goal.returns-in_err-make_room-clause-pushed
+returns-in_err-make_room-clause-pushed c = let p = err_from_is_err_and c.from_residual.result c.from_residual.ensures.1 in rw p.1 tt
+
+pub returns-in_err-push-clause-pushed : goal.returns-in_err-push-clause-pushed
+returns-in_err-push-clause-pushed c = let p = err_from_is_err_and c.from_residual-in_err-push.result c.from_residual-in_err-push.ensures.1 in rw p.1 tt
+
+pub returns-in_err-reserve-clause-pushed : goal.returns-in_err-reserve-clause-pushed
+returns-in_err-reserve-clause-pushed c = let p = err_from_is_err_and c.from_residual-in_err-reserve.result c.from_residual-in_err-reserve.ensures.1 in rw p.1 tt

@@ -1,3 +1,4 @@
+use Rattle.std.proofs.lemmas.Result.{err_from_is_err_and}
 use Rattle.std.proofs.Common.{◌≡◌, ℕ, ap, ◌∙◌}
 use Rattle.ql_exec.specs.Execution.{effect_of, with_stamp}
 use Rattle.ql_exec.proofs.Making.{IsPushAnswer-fault}
@@ -19,3 +20,6 @@ append-requires-clause-execution c =
 
 pub returns-in_err-append-clause-lawful : goal.returns-in_err-append-clause-lawful
 returns-in_err-append-clause-lawful c = fault_of-None c.args.self.now c.args.draft c.place.ensures.execution c.place.ensures.ascending
+
+pub returns-in_err-append-clause-pushed : goal.returns-in_err-append-clause-pushed
+returns-in_err-append-clause-pushed c = let p = err_from_is_err_and c.from_residual.result c.from_residual.ensures.1 in rw p.1 tt

@@ -1,5 +1,6 @@
+use Rattle.std.proofs.lemmas.Result.{err_from_is_err_and}
 use Rattle.std.proofs.Common.{◌≡◌, ℕ, ◌+◌, List, [], ◌∷◌, ◌++◌, length, refl, sym, ◌∙◌, ap, subst, inl, arith}
-use Rattle.ql_disk.proofs.Stops.{started}
+use Rattle.ql_journal.proofs.Stops.{started}
 use Rattle.ql_holder.proofs.Packages.{package-in}
 use Rattle.ql_journal.specs.Images.{IsBeforeOrAfter}
 use Rattle.ql_holder.specs.Arrivals.{IsArrival}
@@ -126,3 +127,21 @@ returns-in-Ok-clause-acknowledged g c = λ reported runs records has image left.
     let now = image_has (g.D.Disk.held c.append_record.new.disk) (records ++ c.args.pack.now ∷ []) (c.in-Ok.ensures.clean reported) (c.in-Ok.ensures.appended reported records c.args.pack.now is) image left in
     subst (λ (l : List (List ℕ)). HasRecords l image)
     (sym (new_records c.args.x.now (g.H.Holder.received c.args.self.now.holder) c.args.pack.now (g.H.Holder.received c.receive.new.self) c.in_ok-arrival.arrival came c.first_id.result c.first_id.ensures.first absent records)) now
+
+pub returns-in_err-arrival-clause-arrival : goal.returns-in_err-arrival-clause-arrival
+returns-in_err-arrival-clause-arrival g c = let p = err_from_is_err_and c.from_residual-in_err-arrival.result c.from_residual-in_err-arrival.ensures.1 in rw p.1 tt
+
+pub returns-in_err-arrival-clause-end : goal.returns-in_err-arrival-clause-end
+returns-in_err-arrival-clause-end g c = let p = err_from_is_err_and c.from_residual-in_err-arrival.result c.from_residual-in_err-arrival.ensures.1 in rw p.1 tt
+
+pub returns-in_err-body-clause-arrival : goal.returns-in_err-body-clause-arrival
+returns-in_err-body-clause-arrival g c = let p = err_from_is_err_and c.from_residual-in_err-body.result c.from_residual-in_err-body.ensures.1 in rw p.1 tt
+
+pub returns-in_err-body-clause-end : goal.returns-in_err-body-clause-end
+returns-in_err-body-clause-end g c = let p = err_from_is_err_and c.from_residual-in_err-body.result c.from_residual-in_err-body.ensures.1 in rw p.1 tt
+
+pub returns-in_err-holder-clause-arrival : goal.returns-in_err-holder-clause-arrival
+returns-in_err-holder-clause-arrival g c = let p = err_from_is_err_and c.from_residual.result c.from_residual.ensures.1 in rw p.1 tt
+
+pub returns-in_err-holder-clause-end : goal.returns-in_err-holder-clause-end
+returns-in_err-holder-clause-end g c = let p = err_from_is_err_and c.from_residual.result c.from_residual.ensures.1 in rw p.1 tt

@@ -1,3 +1,4 @@
+use Rattle.std.proofs.lemmas.Result.{err_from_is_err_and}
 use Rattle.std.proofs.Common.{List, ℕ, Err, Ok, ◌∙◌, subst}
 use Rattle.ql_journal.specs.Stations.{Received, Recovers}
 use Rattle.ql_journal.proofs.EndLaws.{sound, damaged, stranger}
@@ -47,3 +48,9 @@ returns-clause-strange g c = λ reported at strange.
     let is = subst (λ (f : List ℕ). Received g.H.Holder.received x committed f c.in-Ok.holder c.in-Ok.end) file_is c.in-Ok.ensures.recovers in
     stranger {T = Unit {0}} x committed (g.D.Disk.held c.args.disk.now).content
     (λ u. Received g.H.Holder.received x committed (g.D.Disk.held c.args.disk.now).content c.in-Ok.holder c.in-Ok.end) (λ u r. (r.records, r.known, r.has)) at strange (Ok tt) is
+
+pub returns-in_err-bytes-clause-fits : goal.returns-in_err-bytes-clause-fits
+returns-in_err-bytes-clause-fits g c = let p = err_from_is_err_and c.from_residual.result c.from_residual.ensures.1 in rw p.1 tt
+
+pub returns-in_err-bytes-clause-start : goal.returns-in_err-bytes-clause-start
+returns-in_err-bytes-clause-start g c = let p = err_from_is_err_and c.from_residual.result c.from_residual.ensures.1 in rw p.1 tt

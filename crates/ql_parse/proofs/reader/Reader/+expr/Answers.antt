@@ -230,3 +230,153 @@ whole_expression-returns-clause-gave t c = if_ok c.operands.result c.operands.en
 
 pub whole_expression-returns-clause-refused : goal.whole_expression-returns-clause-refused
 whole_expression-returns-clause-refused t c = if_err c.operands.result c.operands.ensures.refused (λ e refused f is below vs. chosen-plain c.args.self.now below vs (sym c.sees.ensures ∙ c.if-sees.false) ∙ refused f is below vs)
+
+pub arguments_of_call-returns-in_err-arg-clause-gave : goal.arguments_of_call-returns-in_err-arg-clause-gave
+arguments_of_call-returns-in_err-arg-clause-gave t c = let p = err_from_is_err_and c.from_residual-in_err-arg.result c.from_residual-in_err-arg.ensures.1 in rw p.1 tt
+
+pub arguments_of_call-returns-in_err-arg-clause-shorter : goal.arguments_of_call-returns-in_err-arg-clause-shorter
+arguments_of_call-returns-in_err-arg-clause-shorter t c = let p = err_from_is_err_and c.from_residual-in_err-arg.result c.from_residual-in_err-arg.ensures.1 in rw p.1 tt
+
+pub arguments_of_call-returns-in_err-found-clause-gave : goal.arguments_of_call-returns-in_err-found-clause-gave
+arguments_of_call-returns-in_err-found-clause-gave t c = let p = err_from_is_err_and c.from_residual.result c.from_residual.ensures.1 in rw p.1 tt
+
+pub arguments_of_call-returns-in_err-found-clause-shorter : goal.arguments_of_call-returns-in_err-found-clause-shorter
+arguments_of_call-returns-in_err-found-clause-shorter t c = let p = err_from_is_err_and c.from_residual.result c.from_residual.ensures.1 in rw p.1 tt
+
+pub arguments_of_call-returns-in_err-push-clause-gave : goal.arguments_of_call-returns-in_err-push-clause-gave
+arguments_of_call-returns-in_err-push-clause-gave t c = let p = err_from_is_err_and c.from_residual-in_err-push.result c.from_residual-in_err-push.ensures.1 in rw p.1 tt
+
+pub arguments_of_call-returns-in_err-push-clause-shorter : goal.arguments_of_call-returns-in_err-push-clause-shorter
+arguments_of_call-returns-in_err-push-clause-shorter t c = let p = err_from_is_err_and c.from_residual-in_err-push.result c.from_residual-in_err-push.ensures.1 in rw p.1 tt
+
+pub bracketed-returns-in_err-args-clause-gave : goal.bracketed-returns-in_err-args-clause-gave
+bracketed-returns-in_err-args-clause-gave t c = let p = err_from_is_err_and c.from_residual-in_err-args.result c.from_residual-in_err-args.ensures.1 in rw p.1 tt
+
+pub bracketed-returns-in_err-args-clause-shorter : goal.bracketed-returns-in_err-args-clause-shorter
+bracketed-returns-in_err-args-clause-shorter t c = let p = err_from_is_err_and c.from_residual-in_err-args.result c.from_residual-in_err-args.ensures.1 in rw p.1 tt
+
+pub bracketed-returns-in_err-take-clause-gave : goal.bracketed-returns-in_err-take-clause-gave
+bracketed-returns-in_err-take-clause-gave t c = let p = err_from_is_err_and c.from_residual.result c.from_residual.ensures.1 in rw p.1 tt
+
+pub bracketed-returns-in_err-take-clause-shorter : goal.bracketed-returns-in_err-take-clause-shorter
+bracketed-returns-in_err-take-clause-shorter t c = let p = err_from_is_err_and c.from_residual.result c.from_residual.ensures.1 in rw p.1 tt
+
+pub branch-returns-in_err-take-clause-gave : goal.branch-returns-in_err-take-clause-gave
+branch-returns-in_err-take-clause-gave t c = let p = err_from_is_err_and c.from_residual.result c.from_residual.ensures.1 in rw p.1 tt
+
+pub branch-returns-in_err-take-clause-shorter : goal.branch-returns-in_err-take-clause-shorter
+branch-returns-in_err-take-clause-shorter t c = let p = err_from_is_err_and c.from_residual.result c.from_residual.ensures.1 in rw p.1 tt
+
+pub branches-returns-in_err-then-clause-gave : goal.branches-returns-in_err-then-clause-gave
+branches-returns-in_err-then-clause-gave t c = let p = err_from_is_err_and c.from_residual.result c.from_residual.ensures.1 in rw p.1 tt
+
+pub branches-returns-in_err-then-clause-shorter : goal.branches-returns-in_err-then-clause-shorter
+branches-returns-in_err-then-clause-shorter t c = let p = err_from_is_err_and c.from_residual.result c.from_residual.ensures.1 in rw p.1 tt
+
+pub choice-returns-in_err-at-clause-gave : goal.choice-returns-in_err-at-clause-gave
+choice-returns-in_err-at-clause-gave t c = let p = err_from_is_err_and c.from_residual.result c.from_residual.ensures.1 in rw p.1 tt
+
+pub choice-returns-in_err-at-clause-shorter : goal.choice-returns-in_err-at-clause-shorter
+choice-returns-in_err-at-clause-shorter t c = let p = err_from_is_err_and c.from_residual.result c.from_residual.ensures.1 in rw p.1 tt
+
+pub choice-returns-in_err-test-2-clause-gave : goal.choice-returns-in_err-test-2-clause-gave
+choice-returns-in_err-test-2-clause-gave t c = let p = err_from_is_err_and c.from_residual-in_err-test-2.result c.from_residual-in_err-test-2.ensures.1 in rw p.1 tt
+
+pub choice-returns-in_err-test-2-clause-shorter : goal.choice-returns-in_err-test-2-clause-shorter
+choice-returns-in_err-test-2-clause-shorter t c = let p = err_from_is_err_and c.from_residual-in_err-test-2.result c.from_residual-in_err-test-2.ensures.1 in rw p.1 tt
+
+pub choice-returns-in_err-test-clause-gave : goal.choice-returns-in_err-test-clause-gave
+choice-returns-in_err-test-clause-gave t c = let p = err_from_is_err_and c.from_residual-in_err-test.result c.from_residual-in_err-test.ensures.1 in rw p.1 tt
+
+pub choice-returns-in_err-test-clause-shorter : goal.choice-returns-in_err-test-clause-shorter
+choice-returns-in_err-test-clause-shorter t c = let p = err_from_is_err_and c.from_residual-in_err-test.result c.from_residual-in_err-test.ensures.1 in rw p.1 tt
+
+pub combined-returns-in_err-left-clause-gave : goal.combined-returns-in_err-left-clause-gave
+combined-returns-in_err-left-clause-gave t c = let p = err_from_is_err_and c.from_residual-in_err-left.result c.from_residual-in_err-left.ensures.1 in rw p.1 tt
+
+pub combined-returns-in_err-left-clause-shorter : goal.combined-returns-in_err-left-clause-shorter
+combined-returns-in_err-left-clause-shorter t c = let p = err_from_is_err_and c.from_residual-in_err-left.result c.from_residual-in_err-left.ensures.1 in rw p.1 tt
+
+pub combined-returns-in_err-op-clause-gave : goal.combined-returns-in_err-op-clause-gave
+combined-returns-in_err-op-clause-gave t c = let p = err_from_is_err_and c.from_residual.result c.from_residual.ensures.1 in rw p.1 tt
+
+pub combined-returns-in_err-op-clause-shorter : goal.combined-returns-in_err-op-clause-shorter
+combined-returns-in_err-op-clause-shorter t c = let p = err_from_is_err_and c.from_residual.result c.from_residual.ensures.1 in rw p.1 tt
+
+pub denial-returns-in_err-at-clause-gave : goal.denial-returns-in_err-at-clause-gave
+denial-returns-in_err-at-clause-gave t c = let p = err_from_is_err_and c.from_residual.result c.from_residual.ensures.1 in rw p.1 tt
+
+pub denial-returns-in_err-at-clause-shorter : goal.denial-returns-in_err-at-clause-shorter
+denial-returns-in_err-at-clause-shorter t c = let p = err_from_is_err_and c.from_residual.result c.from_residual.ensures.1 in rw p.1 tt
+
+pub denial-returns-in_err-denied-clause-gave : goal.denial-returns-in_err-denied-clause-gave
+denial-returns-in_err-denied-clause-gave t c = let p = err_from_is_err_and c.from_residual-in_err-denied.result c.from_residual-in_err-denied.ensures.1 in rw p.1 tt
+
+pub denial-returns-in_err-denied-clause-shorter : goal.denial-returns-in_err-denied-clause-shorter
+denial-returns-in_err-denied-clause-shorter t c = let p = err_from_is_err_and c.from_residual-in_err-denied.result c.from_residual-in_err-denied.ensures.1 in rw p.1 tt
+
+pub denial-returns-in_err-new-clause-gave : goal.denial-returns-in_err-new-clause-gave
+denial-returns-in_err-new-clause-gave t c = let p = err_from_is_err_and c.from_residual-in_err-new.result c.from_residual-in_err-new.ensures.1 in rw p.1 tt
+
+pub denial-returns-in_err-new-clause-shorter : goal.denial-returns-in_err-new-clause-shorter
+denial-returns-in_err-new-clause-shorter t c = let p = err_from_is_err_and c.from_residual-in_err-new.result c.from_residual-in_err-new.ensures.1 in rw p.1 tt
+
+pub group-returns-in_err-at-clause-gave : goal.group-returns-in_err-at-clause-gave
+group-returns-in_err-at-clause-gave t c = let p = err_from_is_err_and c.from_residual.result c.from_residual.ensures.1 in rw p.1 tt
+
+pub group-returns-in_err-at-clause-shorter : goal.group-returns-in_err-at-clause-shorter
+group-returns-in_err-at-clause-shorter t c = let p = err_from_is_err_and c.from_residual.result c.from_residual.ensures.1 in rw p.1 tt
+
+pub group-returns-in_err-inside-clause-gave : goal.group-returns-in_err-inside-clause-gave
+group-returns-in_err-inside-clause-gave t c = let p = err_from_is_err_and c.from_residual-in_err-inside.result c.from_residual-in_err-inside.ensures.1 in rw p.1 tt
+
+pub group-returns-in_err-inside-clause-shorter : goal.group-returns-in_err-inside-clause-shorter
+group-returns-in_err-inside-clause-shorter t c = let p = err_from_is_err_and c.from_residual-in_err-inside.result c.from_residual-in_err-inside.ensures.1 in rw p.1 tt
+
+pub more_operands-returns-in_err-both-clause-gave : goal.more_operands-returns-in_err-both-clause-gave
+more_operands-returns-in_err-both-clause-gave t c = let p = err_from_is_err_and c.from_residual.result c.from_residual.ensures.1 in rw p.1 tt
+
+pub more_operands-returns-in_err-both-clause-shorter : goal.more_operands-returns-in_err-both-clause-shorter
+more_operands-returns-in_err-both-clause-shorter t c = let p = err_from_is_err_and c.from_residual.result c.from_residual.ensures.1 in rw p.1 tt
+
+pub named-returns-in_err-args-clause-gave : goal.named-returns-in_err-args-clause-gave
+named-returns-in_err-args-clause-gave t c = let p = err_from_is_err_and c.from_residual-in_err-args.result c.from_residual-in_err-args.ensures.1 in rw p.1 tt
+
+pub named-returns-in_err-args-clause-shorter : goal.named-returns-in_err-args-clause-shorter
+named-returns-in_err-args-clause-shorter t c = let p = err_from_is_err_and c.from_residual-in_err-args.result c.from_residual-in_err-args.ensures.1 in rw p.1 tt
+
+pub named-returns-in_err-name-clause-gave : goal.named-returns-in_err-name-clause-gave
+named-returns-in_err-name-clause-gave t c = let p = err_from_is_err_and c.from_residual.result c.from_residual.ensures.1 in rw p.1 tt
+
+pub named-returns-in_err-name-clause-shorter : goal.named-returns-in_err-name-clause-shorter
+named-returns-in_err-name-clause-shorter t c = let p = err_from_is_err_and c.from_residual.result c.from_residual.ensures.1 in rw p.1 tt
+
+pub negation-returns-in_err-at-clause-gave : goal.negation-returns-in_err-at-clause-gave
+negation-returns-in_err-at-clause-gave t c = let p = err_from_is_err_and c.from_residual.result c.from_residual.ensures.1 in rw p.1 tt
+
+pub negation-returns-in_err-at-clause-shorter : goal.negation-returns-in_err-at-clause-shorter
+negation-returns-in_err-at-clause-shorter t c = let p = err_from_is_err_and c.from_residual.result c.from_residual.ensures.1 in rw p.1 tt
+
+pub negation-returns-in_err-negated-clause-gave : goal.negation-returns-in_err-negated-clause-gave
+negation-returns-in_err-negated-clause-gave t c = let p = err_from_is_err_and c.from_residual-in_err-negated.result c.from_residual-in_err-negated.ensures.1 in rw p.1 tt
+
+pub negation-returns-in_err-negated-clause-shorter : goal.negation-returns-in_err-negated-clause-shorter
+negation-returns-in_err-negated-clause-shorter t c = let p = err_from_is_err_and c.from_residual-in_err-negated.result c.from_residual-in_err-negated.ensures.1 in rw p.1 tt
+
+pub negation-returns-in_err-new-clause-gave : goal.negation-returns-in_err-new-clause-gave
+negation-returns-in_err-new-clause-gave t c = let p = err_from_is_err_and c.from_residual-in_err-new.result c.from_residual-in_err-new.ensures.1 in rw p.1 tt
+
+pub negation-returns-in_err-new-clause-shorter : goal.negation-returns-in_err-new-clause-shorter
+negation-returns-in_err-new-clause-shorter t c = let p = err_from_is_err_and c.from_residual-in_err-new.result c.from_residual-in_err-new.ensures.1 in rw p.1 tt
+
+pub operands-returns-in_err-left-2-clause-gave : goal.operands-returns-in_err-left-2-clause-gave
+operands-returns-in_err-left-2-clause-gave t c = let p = err_from_is_err_and c.from_residual-in_err-left-2.result c.from_residual-in_err-left-2.ensures.1 in rw p.1 tt
+
+pub operands-returns-in_err-left-2-clause-shorter : goal.operands-returns-in_err-left-2-clause-shorter
+operands-returns-in_err-left-2-clause-shorter t c = let p = err_from_is_err_and c.from_residual-in_err-left-2.result c.from_residual-in_err-left-2.ensures.1 in rw p.1 tt
+
+pub operands-returns-in_err-left-clause-gave : goal.operands-returns-in_err-left-clause-gave
+operands-returns-in_err-left-clause-gave t c = let p = err_from_is_err_and c.from_residual.result c.from_residual.ensures.1 in rw p.1 tt
+
+pub operands-returns-in_err-left-clause-shorter : goal.operands-returns-in_err-left-clause-shorter
+operands-returns-in_err-left-clause-shorter t c = let p = err_from_is_err_and c.from_residual.result c.from_residual.ensures.1 in rw p.1 tt

@@ -93,3 +93,69 @@ prop-returns-clause-shorter t c =
 
 pub prop-returns-then-not-sees-clause-gave : goal.prop-returns-then-not-sees-clause-gave
 prop-returns-then-not-sees-clause-gave t c = λ below vs. read-as c.args.self.now (PropAt Whole) (PropAt Either) below (Then MoreImplied ∷ below) vs refl ∙ c.in_ok-left.ensures.gave _ _ ∙ then-past c.joined_props.new.self MoreImplied below _ (sym c.sees.ensures ∙ c.if-not-sees.true)
+
+pub atom-returns-in_err-inside-clause-gave : goal.atom-returns-in_err-inside-clause-gave
+atom-returns-in_err-inside-clause-gave t c = let p = err_from_is_err_and c.from_residual-in_err-inside.result c.from_residual-in_err-inside.ensures.1 in rw p.1 tt
+
+pub atom-returns-in_err-inside-clause-shorter : goal.atom-returns-in_err-inside-clause-shorter
+atom-returns-in_err-inside-clause-shorter t c = let p = err_from_is_err_and c.from_residual-in_err-inside.result c.from_residual-in_err-inside.ensures.1 in rw p.1 tt
+
+pub atom-returns-in_err-take-clause-gave : goal.atom-returns-in_err-take-clause-gave
+atom-returns-in_err-take-clause-gave t c = let p = err_from_is_err_and c.from_residual.result c.from_residual.ensures.1 in rw p.1 tt
+
+pub atom-returns-in_err-take-clause-shorter : goal.atom-returns-in_err-take-clause-shorter
+atom-returns-in_err-take-clause-shorter t c = let p = err_from_is_err_and c.from_residual.result c.from_residual.ensures.1 in rw p.1 tt
+
+pub joined_props-returns-in_err-left-2-clause-gave : goal.joined_props-returns-in_err-left-2-clause-gave
+joined_props-returns-in_err-left-2-clause-gave t c = let p = err_from_is_err_and c.from_residual-in_err-left-2.result c.from_residual-in_err-left-2.ensures.1 in rw p.1 tt
+
+pub joined_props-returns-in_err-left-2-clause-shorter : goal.joined_props-returns-in_err-left-2-clause-shorter
+joined_props-returns-in_err-left-2-clause-shorter t c = let p = err_from_is_err_and c.from_residual-in_err-left-2.result c.from_residual-in_err-left-2.ensures.1 in rw p.1 tt
+
+pub joined_props-returns-in_err-left-clause-gave : goal.joined_props-returns-in_err-left-clause-gave
+joined_props-returns-in_err-left-clause-gave t c = let p = err_from_is_err_and c.from_residual.result c.from_residual.ensures.1 in rw p.1 tt
+
+pub joined_props-returns-in_err-left-clause-shorter : goal.joined_props-returns-in_err-left-clause-shorter
+joined_props-returns-in_err-left-clause-shorter t c = let p = err_from_is_err_and c.from_residual.result c.from_residual.ensures.1 in rw p.1 tt
+
+pub more_props-returns-in_err-left-2-clause-shorter : goal.more_props-returns-in_err-left-2-clause-shorter
+more_props-returns-in_err-left-2-clause-shorter t c = let p = err_from_is_err_and c.from_residual-in_err-left-2.result c.from_residual-in_err-left-2.ensures.1 in rw p.1 tt
+
+pub more_props-returns-in_err-left-2-clause-turned : goal.more_props-returns-in_err-left-2-clause-turned
+more_props-returns-in_err-left-2-clause-turned t c = let p = err_from_is_err_and c.from_residual-in_err-left-2.result c.from_residual-in_err-left-2.ensures.1 in rw p.1 tt
+
+pub more_props-returns-in_err-left-3-clause-shorter : goal.more_props-returns-in_err-left-3-clause-shorter
+more_props-returns-in_err-left-3-clause-shorter t c = let p = err_from_is_err_and c.from_residual-in_err-left-3.result c.from_residual-in_err-left-3.ensures.1 in rw p.1 tt
+
+pub more_props-returns-in_err-left-3-clause-turned : goal.more_props-returns-in_err-left-3-clause-turned
+more_props-returns-in_err-left-3-clause-turned t c = let p = err_from_is_err_and c.from_residual-in_err-left-3.result c.from_residual-in_err-left-3.ensures.1 in rw p.1 tt
+
+pub more_props-returns-in_err-left-clause-shorter : goal.more_props-returns-in_err-left-clause-shorter
+more_props-returns-in_err-left-clause-shorter t c = let p = err_from_is_err_and c.from_residual.result c.from_residual.ensures.1 in rw p.1 tt
+
+pub more_props-returns-in_err-left-clause-turned : goal.more_props-returns-in_err-left-clause-turned
+more_props-returns-in_err-left-clause-turned t c = let p = err_from_is_err_and c.from_residual.result c.from_residual.ensures.1 in rw p.1 tt
+
+pub prop-returns-in_err-left-2-clause-gave : goal.prop-returns-in_err-left-2-clause-gave
+prop-returns-in_err-left-2-clause-gave t c = let p = err_from_is_err_and c.from_residual-in_err-left-2.result c.from_residual-in_err-left-2.ensures.1 in rw p.1 tt
+
+pub prop-returns-in_err-left-2-clause-shorter : goal.prop-returns-in_err-left-2-clause-shorter
+prop-returns-in_err-left-2-clause-shorter t c = let p = err_from_is_err_and c.from_residual-in_err-left-2.result c.from_residual-in_err-left-2.ensures.1 in rw p.1 tt
+
+pub prop-returns-in_err-left-3-clause-gave : goal.prop-returns-in_err-left-3-clause-gave
+prop-returns-in_err-left-3-clause-gave t c = let p = err_from_is_err_and c.from_residual-in_err-left-3.result c.from_residual-in_err-left-3.ensures.1 in rw p.1 tt
+
+pub prop-returns-in_err-left-3-clause-shorter : goal.prop-returns-in_err-left-3-clause-shorter
+prop-returns-in_err-left-3-clause-shorter t c = let p = err_from_is_err_and c.from_residual-in_err-left-3.result c.from_residual-in_err-left-3.ensures.1 in rw p.1 tt
+
+pub prop-returns-in_err-left-4-clause-gave : goal.prop-returns-in_err-left-4-clause-gave
+prop-returns-in_err-left-4-clause-gave t c = let p = err_from_is_err_and c.from_residual-in_err-left-4.result c.from_residual-in_err-left-4.ensures.1 in rw p.1 tt
+
+pub prop-returns-in_err-left-4-clause-shorter : goal.prop-returns-in_err-left-4-clause-shorter
+prop-returns-in_err-left-4-clause-shorter t c = let p = err_from_is_err_and c.from_residual-in_err-left-4.result c.from_residual-in_err-left-4.ensures.1 in rw p.1 tt
+
+pub prop-returns-in_err-left-clause-gave : goal.prop-returns-in_err-left-clause-gave
+prop-returns-in_err-left-clause-gave t c = let p = err_from_is_err_and c.from_residual.result c.from_residual.ensures.1 in rw p.1 tt
+
+pub prop-returns-in_err-left-clause-shorter : goal.prop-returns-in_err-left-clause-shorter
+prop-returns-in_err-left-clause-shorter t c = let p = err_from_is_err_and c.from_residual.result c.from_residual.ensures.1 in rw p.1 tt

@@ -75,3 +75,51 @@ relation_operand-returns-in-And-clause-gave t c = rw c.in-And.is (if_ok c.single
 
 pub relation_operand-returns-in-And-clause-refused : goal.relation_operand-returns-in-And-clause-refused
 relation_operand-returns-in-And-clause-refused t c = rw c.in-And.is (if_err c.single.result c.single.ensures.refused (λ e refused f is below vs. read-part c.args.self.now (RelationAt Single) below vs ∙ refused f is below vs))
+
+pub joined_relations-returns-in_err-left-2-clause-gave : goal.joined_relations-returns-in_err-left-2-clause-gave
+joined_relations-returns-in_err-left-2-clause-gave t c = let p = err_from_is_err_and c.from_residual-in_err-left-2.result c.from_residual-in_err-left-2.ensures.1 in rw p.1 tt
+
+pub joined_relations-returns-in_err-left-2-clause-shorter : goal.joined_relations-returns-in_err-left-2-clause-shorter
+joined_relations-returns-in_err-left-2-clause-shorter t c = let p = err_from_is_err_and c.from_residual-in_err-left-2.result c.from_residual-in_err-left-2.ensures.1 in rw p.1 tt
+
+pub joined_relations-returns-in_err-left-clause-gave : goal.joined_relations-returns-in_err-left-clause-gave
+joined_relations-returns-in_err-left-clause-gave t c = let p = err_from_is_err_and c.from_residual.result c.from_residual.ensures.1 in rw p.1 tt
+
+pub joined_relations-returns-in_err-left-clause-shorter : goal.joined_relations-returns-in_err-left-clause-shorter
+joined_relations-returns-in_err-left-clause-shorter t c = let p = err_from_is_err_and c.from_residual.result c.from_residual.ensures.1 in rw p.1 tt
+
+pub more_relations-returns-in_err-left-2-clause-shorter : goal.more_relations-returns-in_err-left-2-clause-shorter
+more_relations-returns-in_err-left-2-clause-shorter t c = let p = err_from_is_err_and c.from_residual-in_err-left-2.result c.from_residual-in_err-left-2.ensures.1 in rw p.1 tt
+
+pub more_relations-returns-in_err-left-2-clause-turned : goal.more_relations-returns-in_err-left-2-clause-turned
+more_relations-returns-in_err-left-2-clause-turned t c = let p = err_from_is_err_and c.from_residual-in_err-left-2.result c.from_residual-in_err-left-2.ensures.1 in rw p.1 tt
+
+pub more_relations-returns-in_err-left-3-clause-shorter : goal.more_relations-returns-in_err-left-3-clause-shorter
+more_relations-returns-in_err-left-3-clause-shorter t c = let p = err_from_is_err_and c.from_residual-in_err-left-3.result c.from_residual-in_err-left-3.ensures.1 in rw p.1 tt
+
+pub more_relations-returns-in_err-left-3-clause-turned : goal.more_relations-returns-in_err-left-3-clause-turned
+more_relations-returns-in_err-left-3-clause-turned t c = let p = err_from_is_err_and c.from_residual-in_err-left-3.result c.from_residual-in_err-left-3.ensures.1 in rw p.1 tt
+
+pub more_relations-returns-in_err-left-clause-shorter : goal.more_relations-returns-in_err-left-clause-shorter
+more_relations-returns-in_err-left-clause-shorter t c = let p = err_from_is_err_and c.from_residual.result c.from_residual.ensures.1 in rw p.1 tt
+
+pub more_relations-returns-in_err-left-clause-turned : goal.more_relations-returns-in_err-left-clause-turned
+more_relations-returns-in_err-left-clause-turned t c = let p = err_from_is_err_and c.from_residual.result c.from_residual.ensures.1 in rw p.1 tt
+
+pub single-returns-in_err-at-clause-gave : goal.single-returns-in_err-at-clause-gave
+single-returns-in_err-at-clause-gave t c = let p = err_from_is_err_and c.from_residual-in_err-at.result c.from_residual-in_err-at.ensures.1 in rw p.1 tt
+
+pub single-returns-in_err-at-clause-shorter : goal.single-returns-in_err-at-clause-shorter
+single-returns-in_err-at-clause-shorter t c = let p = err_from_is_err_and c.from_residual-in_err-at.result c.from_residual-in_err-at.ensures.1 in rw p.1 tt
+
+pub single-returns-in_err-inside-clause-gave : goal.single-returns-in_err-inside-clause-gave
+single-returns-in_err-inside-clause-gave t c = let p = err_from_is_err_and c.from_residual-in_err-inside.result c.from_residual-in_err-inside.ensures.1 in rw p.1 tt
+
+pub single-returns-in_err-inside-clause-shorter : goal.single-returns-in_err-inside-clause-shorter
+single-returns-in_err-inside-clause-shorter t c = let p = err_from_is_err_and c.from_residual-in_err-inside.result c.from_residual-in_err-inside.ensures.1 in rw p.1 tt
+
+pub single-returns-in_err-take-clause-gave : goal.single-returns-in_err-take-clause-gave
+single-returns-in_err-take-clause-gave t c = let p = err_from_is_err_and c.from_residual.result c.from_residual.ensures.1 in rw p.1 tt
+
+pub single-returns-in_err-take-clause-shorter : goal.single-returns-in_err-take-clause-shorter
+single-returns-in_err-take-clause-shorter t c = let p = err_from_is_err_and c.from_residual.result c.from_residual.ensures.1 in rw p.1 tt

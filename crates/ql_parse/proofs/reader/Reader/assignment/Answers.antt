@@ -15,3 +15,15 @@ returns-in_err-value-clause-refused c =
 
 pub returns-clause-gave : goal.returns-clause-gave
 returns-clause-gave c = λ below vs items. c.in_ok-target.ensures.gave _ _ ∙ c.in_ok-value.ensures.gave _ _ ∙ read-do _ _ _ _
+
+pub returns-in_err-target-clause-gave : goal.returns-in_err-target-clause-gave
+returns-in_err-target-clause-gave c = let p = err_from_is_err_and c.from_residual.result c.from_residual.ensures.1 in rw p.1 tt
+
+pub returns-in_err-target-clause-shorter : goal.returns-in_err-target-clause-shorter
+returns-in_err-target-clause-shorter c = let p = err_from_is_err_and c.from_residual.result c.from_residual.ensures.1 in rw p.1 tt
+
+pub returns-in_err-value-clause-gave : goal.returns-in_err-value-clause-gave
+returns-in_err-value-clause-gave c = let p = err_from_is_err_and c.from_residual-in_err-value.result c.from_residual-in_err-value.ensures.1 in rw p.1 tt
+
+pub returns-in_err-value-clause-shorter : goal.returns-in_err-value-clause-shorter
+returns-in_err-value-clause-shorter c = let p = err_from_is_err_and c.from_residual-in_err-value.result c.from_residual-in_err-value.ensures.1 in rw p.1 tt

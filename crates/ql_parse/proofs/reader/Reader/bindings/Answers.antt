@@ -24,3 +24,27 @@ more-preserved c = rw c.in_ok-push.ensures.items (read_mark c.more.invariant c.b
 
 pub returns-then-not-passes-clause-gave : goal.returns-then-not-passes-clause-gave
 returns-then-not-passes-clause-gave c = λ below vs. rw (c.of.ensures, c.in_ok-push.ensures.items) (read_all c.more.invariant c.binding.new.self c.in_ok-binding.binding c.in_ok-binding.ensures.gave (c.passes.ensures.missed c.if-not-passes.true) (λ under. refl) below vs)
+
+pub returns-in_err-binding-clause-gave : goal.returns-in_err-binding-clause-gave
+returns-in_err-binding-clause-gave c = let p = err_from_is_err_and c.from_residual-in_err-binding.result c.from_residual-in_err-binding.ensures.1 in rw p.1 tt
+
+pub returns-in_err-binding-clause-shorter : goal.returns-in_err-binding-clause-shorter
+returns-in_err-binding-clause-shorter c = let p = err_from_is_err_and c.from_residual-in_err-binding.result c.from_residual-in_err-binding.ensures.1 in rw p.1 tt
+
+pub returns-in_err-found-clause-gave : goal.returns-in_err-found-clause-gave
+returns-in_err-found-clause-gave c = let p = err_from_is_err_and c.from_residual-in_err-found.result c.from_residual-in_err-found.ensures.1 in rw p.1 tt
+
+pub returns-in_err-found-clause-shorter : goal.returns-in_err-found-clause-shorter
+returns-in_err-found-clause-shorter c = let p = err_from_is_err_and c.from_residual-in_err-found.result c.from_residual-in_err-found.ensures.1 in rw p.1 tt
+
+pub returns-in_err-push-clause-gave : goal.returns-in_err-push-clause-gave
+returns-in_err-push-clause-gave c = let p = err_from_is_err_and c.from_residual-in_err-push.result c.from_residual-in_err-push.ensures.1 in rw p.1 tt
+
+pub returns-in_err-push-clause-shorter : goal.returns-in_err-push-clause-shorter
+returns-in_err-push-clause-shorter c = let p = err_from_is_err_and c.from_residual-in_err-push.result c.from_residual-in_err-push.ensures.1 in rw p.1 tt
+
+pub returns-in_err-take-clause-gave : goal.returns-in_err-take-clause-gave
+returns-in_err-take-clause-gave c = let p = err_from_is_err_and c.from_residual.result c.from_residual.ensures.1 in rw p.1 tt
+
+pub returns-in_err-take-clause-shorter : goal.returns-in_err-take-clause-shorter
+returns-in_err-take-clause-shorter c = let p = err_from_is_err_and c.from_residual.result c.from_residual.ensures.1 in rw p.1 tt

@@ -21,3 +21,21 @@ returns-in_err-at-3-clause-refused c =
 pub returns-clause-gave : goal.returns-clause-gave
 unfolding node_of
 returns-clause-gave c = λ below vs. constant-unit c.args.self.now below vs (sym c.sees.ensures ∙ c.if-sees.false) (sym c.sees-2.ensures ∙ c.if-sees-2.false) ∙ c.in_ok-at-3.ensures.gave _ _ ∙ read-do _ _ _ _
+
+pub returns-in_err-at-2-clause-gave : goal.returns-in_err-at-2-clause-gave
+returns-in_err-at-2-clause-gave c = let p = err_from_is_err_and c.from_residual-in_err-at-2.result c.from_residual-in_err-at-2.ensures.1 in rw p.1 tt
+
+pub returns-in_err-at-2-clause-shorter : goal.returns-in_err-at-2-clause-shorter
+returns-in_err-at-2-clause-shorter c = let p = err_from_is_err_and c.from_residual-in_err-at-2.result c.from_residual-in_err-at-2.ensures.1 in rw p.1 tt
+
+pub returns-in_err-at-3-clause-gave : goal.returns-in_err-at-3-clause-gave
+returns-in_err-at-3-clause-gave c = let p = err_from_is_err_and c.from_residual-in_err-at-3.result c.from_residual-in_err-at-3.ensures.1 in rw p.1 tt
+
+pub returns-in_err-at-3-clause-shorter : goal.returns-in_err-at-3-clause-shorter
+returns-in_err-at-3-clause-shorter c = let p = err_from_is_err_and c.from_residual-in_err-at-3.result c.from_residual-in_err-at-3.ensures.1 in rw p.1 tt
+
+pub returns-in_err-at-clause-gave : goal.returns-in_err-at-clause-gave
+returns-in_err-at-clause-gave c = let p = err_from_is_err_and c.from_residual.result c.from_residual.ensures.1 in rw p.1 tt
+
+pub returns-in_err-at-clause-shorter : goal.returns-in_err-at-clause-shorter
+returns-in_err-at-clause-shorter c = let p = err_from_is_err_and c.from_residual.result c.from_residual.ensures.1 in rw p.1 tt

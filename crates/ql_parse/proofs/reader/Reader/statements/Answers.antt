@@ -23,3 +23,21 @@ more-preserved c =
 
 pub returns-clause-gave : goal.returns-clause-gave
 returns-clause-gave c = λ below vs. rw (c.of.ensures) (c.more.invariant.so_far below vs ∙ then-past c.more.self MoreAssignments below _ (sym c.sees.ensures ∙ c.more-test.false))
+
+pub returns-in_err-found-clause-gave : goal.returns-in_err-found-clause-gave
+returns-in_err-found-clause-gave c = let p = err_from_is_err_and c.from_residual.result c.from_residual.ensures.1 in rw p.1 tt
+
+pub returns-in_err-found-clause-within : goal.returns-in_err-found-clause-within
+returns-in_err-found-clause-within c = let p = err_from_is_err_and c.from_residual.result c.from_residual.ensures.1 in rw p.1 tt
+
+pub returns-in_err-item-clause-gave : goal.returns-in_err-item-clause-gave
+returns-in_err-item-clause-gave c = let p = err_from_is_err_and c.from_residual-in_err-item.result c.from_residual-in_err-item.ensures.1 in rw p.1 tt
+
+pub returns-in_err-item-clause-within : goal.returns-in_err-item-clause-within
+returns-in_err-item-clause-within c = let p = err_from_is_err_and c.from_residual-in_err-item.result c.from_residual-in_err-item.ensures.1 in rw p.1 tt
+
+pub returns-in_err-push-clause-gave : goal.returns-in_err-push-clause-gave
+returns-in_err-push-clause-gave c = let p = err_from_is_err_and c.from_residual-in_err-push.result c.from_residual-in_err-push.ensures.1 in rw p.1 tt
+
+pub returns-in_err-push-clause-within : goal.returns-in_err-push-clause-within
+returns-in_err-push-clause-within c = let p = err_from_is_err_and c.from_residual-in_err-push.result c.from_residual-in_err-push.ensures.1 in rw p.1 tt

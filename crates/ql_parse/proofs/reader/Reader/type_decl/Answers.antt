@@ -18,3 +18,15 @@ returns-clause-gave c = if_ok c.members.result c.members.ensures.gave (λ x gave
 
 pub returns-clause-refused : goal.returns-clause-refused
 returns-clause-refused c = if_err c.members.result c.members.ensures.refused (λ e refused f is below vs. c.in_ok-at.ensures.gave _ _ ∙ c.in_ok-name.ensures.gave _ _ ∙ refused f is _ _)
+
+pub returns-in_err-at-clause-gave : goal.returns-in_err-at-clause-gave
+returns-in_err-at-clause-gave c = let p = err_from_is_err_and c.from_residual.result c.from_residual.ensures.1 in rw p.1 tt
+
+pub returns-in_err-at-clause-shorter : goal.returns-in_err-at-clause-shorter
+returns-in_err-at-clause-shorter c = let p = err_from_is_err_and c.from_residual.result c.from_residual.ensures.1 in rw p.1 tt
+
+pub returns-in_err-name-clause-gave : goal.returns-in_err-name-clause-gave
+returns-in_err-name-clause-gave c = let p = err_from_is_err_and c.from_residual-in_err-name.result c.from_residual-in_err-name.ensures.1 in rw p.1 tt
+
+pub returns-in_err-name-clause-shorter : goal.returns-in_err-name-clause-shorter
+returns-in_err-name-clause-shorter c = let p = err_from_is_err_and c.from_residual-in_err-name.result c.from_residual-in_err-name.ensures.1 in rw p.1 tt

@@ -19,3 +19,15 @@ more-preserved c = rw c.in_ok-push.ensures.items (read_more c.more.invariant c.t
 
 pub returns-then-not-sees-clause-gave : goal.returns-then-not-sees-clause-gave
 returns-then-not-sees-clause-gave c = λ below vs. rw (c.of.ensures, c.in_ok-push.ensures.items) (read_last c.more.invariant c.type_decl.new.self c.in_ok-item.item c.in_ok-item.ensures.gave (λ under. sym c.sees.ensures ∙ c.if-not-sees.true) below vs)
+
+pub returns-in_err-item-clause-gave : goal.returns-in_err-item-clause-gave
+returns-in_err-item-clause-gave c = let p = err_from_is_err_and c.from_residual.result c.from_residual.ensures.1 in rw p.1 tt
+
+pub returns-in_err-item-clause-shorter : goal.returns-in_err-item-clause-shorter
+returns-in_err-item-clause-shorter c = let p = err_from_is_err_and c.from_residual.result c.from_residual.ensures.1 in rw p.1 tt
+
+pub returns-in_err-push-clause-gave : goal.returns-in_err-push-clause-gave
+returns-in_err-push-clause-gave c = let p = err_from_is_err_and c.from_residual-in_err-push.result c.from_residual-in_err-push.ensures.1 in rw p.1 tt
+
+pub returns-in_err-push-clause-shorter : goal.returns-in_err-push-clause-shorter
+returns-in_err-push-clause-shorter c = let p = err_from_is_err_and c.from_residual-in_err-push.result c.from_residual-in_err-push.ensures.1 in rw p.1 tt

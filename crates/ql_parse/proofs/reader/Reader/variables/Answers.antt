@@ -18,3 +18,21 @@ vars-preserved c = rw c.in_ok-push.ensures.items (read_mark c.vars.invariant c.v
 
 pub returns-then-not-passes-clause-gave : goal.returns-then-not-passes-clause-gave
 returns-then-not-passes-clause-gave c = λ below vs. rw (c.of.ensures, c.in_ok-push.ensures.items) (read_all c.vars.invariant c.variable.new.self c.in_ok-var.var c.in_ok-var.ensures.gave (c.passes.ensures.missed c.if-not-passes.true) (λ under. refl) below vs)
+
+pub returns-in_err-push-clause-gave : goal.returns-in_err-push-clause-gave
+returns-in_err-push-clause-gave c = let p = err_from_is_err_and c.from_residual-in_err-push.result c.from_residual-in_err-push.ensures.1 in rw p.1 tt
+
+pub returns-in_err-push-clause-shorter : goal.returns-in_err-push-clause-shorter
+returns-in_err-push-clause-shorter c = let p = err_from_is_err_and c.from_residual-in_err-push.result c.from_residual-in_err-push.ensures.1 in rw p.1 tt
+
+pub returns-in_err-var-clause-gave : goal.returns-in_err-var-clause-gave
+returns-in_err-var-clause-gave c = let p = err_from_is_err_and c.from_residual-in_err-var.result c.from_residual-in_err-var.ensures.1 in rw p.1 tt
+
+pub returns-in_err-var-clause-shorter : goal.returns-in_err-var-clause-shorter
+returns-in_err-var-clause-shorter c = let p = err_from_is_err_and c.from_residual-in_err-var.result c.from_residual-in_err-var.ensures.1 in rw p.1 tt
+
+pub returns-in_err-vars-clause-gave : goal.returns-in_err-vars-clause-gave
+returns-in_err-vars-clause-gave c = let p = err_from_is_err_and c.from_residual.result c.from_residual.ensures.1 in rw p.1 tt
+
+pub returns-in_err-vars-clause-shorter : goal.returns-in_err-vars-clause-shorter
+returns-in_err-vars-clause-shorter c = let p = err_from_is_err_and c.from_residual.result c.from_residual.ensures.1 in rw p.1 tt

@@ -1,5 +1,6 @@
 use Rattle.std.proofs.Common.{◌≡◌, ◌≢◌, ◌≤◌, length, None, Some, sym, subst, ◌∙◌, arith}
 use Rattle.std.proofs.lemmas.Option.{get_or_from_slice_get}
+use Rattle.std.proofs.lemmas.Result.{IfOk-weaker}
 use Rattle.ql_levels.specs.declared.level.Level.TheVariants.{Strong}
 use Rattle.ql_machine.specs.declared.open_txn.OpenTxn.{OpenTxn}
 use Rattle.ql_machine.specs.State.{open_of}
@@ -44,3 +45,21 @@ call_plain-requires g c =
       room_messages = omega (arith, messages, grouped, few);
       able = c.requires.able;
     }
+
+pub returns-in-Some-clause-step : goal.returns-in-Some-clause-step
+returns-in-Some-clause-step g c = c.call_own.ensures.step
+
+pub returns-in-Some-clause-levels : goal.returns-in-Some-clause-levels
+returns-in-Some-clause-levels g c = c.call_own.ensures.levels
+
+pub returns-in-Some-clause-err : goal.returns-in-Some-clause-err
+returns-in-Some-clause-err g c = c.call_own.ensures.err
+
+pub returns-in-Strong-clause-step : goal.returns-in-Strong-clause-step
+returns-in-Strong-clause-step g c = IfOk-weaker c.call_strong.result _ _ (λ r step rules levels uses answers. step rules levels answers) c.call_strong.ensures.step
+
+pub returns-in-Strong-clause-levels : goal.returns-in-Strong-clause-levels
+returns-in-Strong-clause-levels g c = c.call_strong.ensures.levels
+
+pub returns-in-Strong-clause-err : goal.returns-in-Strong-clause-err
+returns-in-Strong-clause-err g c = c.call_strong.ensures.err

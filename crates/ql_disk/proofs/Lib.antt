@@ -1,3 +1,0 @@
-pub mod Overwriting
-pub mod Stops
-pub mod Lasting

@@ -1,0 +1,8 @@
+use Rattle.std.proofs.lemmas.Result.{err_from_is_err_and}
+use Rattle.ql_gen.proofs.event.draw_call.Goals as goal
+
+pub returns-in_err-args-clause-event : goal.returns-in_err-args-clause-event
+returns-in_err-args-clause-event c = let p = err_from_is_err_and c.from_residual.result c.from_residual.ensures.1 in rw p.1 tt
+
+pub returns-in_err-args-clause-state : goal.returns-in_err-args-clause-state
+returns-in_err-args-clause-state c = let p = err_from_is_err_and c.from_residual.result c.from_residual.ensures.1 in rw p.1 tt

@@ -1,6 +1,0 @@
-use Rattle.std.proofs.Common.{◌≡◌, map, take}
-use Rattle.ql_layout.specs.Dots.{dot_of, seen}
-use Rattle.ql_layout.proofs.dots.dots_of.Given as goal
-
-abbrev pub invariant-loop-seat : goal.invariant-loop-seat
-invariant-loop-seat l = map seen l.dots.items ≡ map (dot_of l.grid) (take l.seat-index l.seats)

@@ -1,0 +1,7 @@
+use Rattle.std.proofs.Common.{◌≡◌, ◌++◌, map, drop}
+use Rattle.std.specs.List.{concat}
+use Rattle.ql_notes.specs.Excerpts.{blanks_below}
+use Rattle.ql_notes.proofs.excerpt.push_blanks.Given as goal
+
+abbrev pub invariant-loop-byte : goal.invariant-loop-byte
+invariant-loop-byte l = l.note.items ++ concat (map blanks_below (drop l.byte-index l.bytes)) ≡ l.fn.note.items ++ concat (map blanks_below l.bytes)

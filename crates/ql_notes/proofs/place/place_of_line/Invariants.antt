@@ -1,0 +1,7 @@
+use Rattle.std.proofs.Common.{◌≤◌, ◌+◌}
+use Rattle.ql_notes.proofs.Scans.{AreBlank, IsScanned}
+use Rattle.ql_notes.proofs.place.place_of_line.Given as goal
+
+abbrev pub invariant-loop-k : goal.invariant-loop-k
+invariant-loop-k l =
+    IsScanned l.fn.text l.k l.line l.start × (l.line ≤ l.k + 1) × AreBlank l.fn.text l.fn.number l.k l.line l.start

@@ -1,0 +1,13 @@
+use Rattle.std.proofs.Common.{◌≡◌, ◌++◌}
+use Rattle.ql_atoms.specs.Atoms.{size_of}
+use Rattle.ql_base.specs.Ranges.{upto}
+use Rattle.ql_cnf.specs.Circuits.{clauses_of}
+use Rattle.ql_typing.specs.Operations.{uses_op}
+use Rattle.ql_relative.specs.Relative.{used_at}
+use Rattle.ql_relative.proofs.used.add_used.Given as goal
+
+abbrev pub invariant-loop-effect : goal.invariant-loop-effect
+invariant-loop-effect l = record {
+  clauses : l.c.clauses ≡ l.initial.c.clauses ++ clauses_of (upto l.effect (used_at (uses_op l.t.program l.d.0) (size_of l.s)));
+  variables : l.c.variables ≡ l.initial.c.variables;
+}

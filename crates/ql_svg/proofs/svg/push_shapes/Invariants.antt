@@ -1,7 +1,0 @@
-use Rattle.std.proofs.Common.{◌≡◌, ◌++◌, take}
-use Rattle.std.specs.List.{flat_map}
-use Rattle.ql_svg.specs.Svg.{shape_text}
-use Rattle.ql_svg.proofs.svg.push_shapes.Given as goal
-
-abbrev pub invariant-loop-shape : goal.invariant-loop-shape
-invariant-loop-shape l = l.out.items ≡ l.initial.out.items ++ flat_map shape_text (take l.shape-index l.shapes)

@@ -1,5 +1,0 @@
-pub mod Attributes
-pub mod Elements
-pub mod Escapes
-pub mod Styles
-pub mod Svg
