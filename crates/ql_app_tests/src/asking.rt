@@ -59,8 +59,8 @@ pub(crate) fn answer_outside(
     let mut shelf = MemShelf::new(alloc, named, outside.fetched.max(1), failing)?;
     let failing = Vec::from_slice(alloc, &[outside.failing_put])?;
     let mut sink = MemSink::new(alloc, ROOM, outside.put.max(1), failing)?;
-    let status = quelea(alloc, words, &mut shelf, &mut sink)?;
-    Ok((status, Vec::from_slice(alloc, sink.bytes())?))
+    let ended = quelea(alloc, words, &mut shelf, &mut sink)?;
+    Ok((ended.status, Vec::from_slice(alloc, sink.bytes())?))
 }
 
 /// The answer that all numbers of a row `FIRST LAST` get. The first number with another answer is reported with it.

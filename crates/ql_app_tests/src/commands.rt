@@ -36,8 +36,8 @@ fn answered(alloc: Global, row: &str) -> Result<Vec<u8>, NoMemory> {
     let mut shelf = shelf(alloc, numbers, file)?;
     let failing = Vec::from_slice(alloc, &[u64::from(number(numbers, 2))])?;
     let mut sink = MemSink::new(alloc, 100, piece(numbers), failing)?;
-    let status = quelea(alloc, &words, &mut shelf, &mut sink)?;
-    report(alloc, status, sink.bytes())
+    let ended = quelea(alloc, &words, &mut shelf, &mut sink)?;
+    report(alloc, ended.status, sink.bytes())
 }
 
 fn shelf(alloc: Global, numbers: &str, text: &str) -> Result<MemShelf, NoMemory> {

@@ -1,16 +1,16 @@
 -- What the arguments ask for: each form of them is one call; and what is then said of the bytes of its files.
-use Rattle.std.proofs.Common.{◌≡◌, ℕ, ◌≤◌, length, List, [], ◌∷◌, Option, Some, get_or, codes, arith, sym, ap, subst, ◌∙◌}
-use Rattle.ql_app.specs.declared.outcome.Limits.{Limits}
+use Rattle.std.proofs.Common.{◌≡◌, ℕ, ◌≤◌, length, List, [], ◌∷◌, get_or, codes, arith, sym, ap, subst, ◌∙◌}
+use Rattle.ql_ports.specs.Readings.{Reading, Whole}
 use Rattle.ql_reply.specs.declared.status.Status.{Status}
+use Rattle.ql_reply.specs.declared.status.Status.TheVariants.{Done, No, ReadFault, TooLarge}
 use Rattle.ql_app.specs.declared.words.Command.{Command}
 use Rattle.ql_app.specs.declared.words.Command.TheVariants.{Holds, Proof, Classify, ClassifyWhy, Prove, Gen, Soak}
 use Rattle.ql_app.specs.declared.words.PairCommand.{PairCommand}
 use Rattle.ql_app.specs.declared.words.PairCommand.TheVariants.{Check, Verify, Run, Slim, Restart}
 use Rattle.ql_running.specs.declared.form.Form.TheVariants.{Text, Json}
-use Rattle.ql_app.specs.Outcome.{CommandSays, Judges, PairSays, second_limit}
-use Rattle.ql_reply.specs.Read.{IsRead}
+use Rattle.ql_app.specs.Outcome.{CommandSays, FileSays, PairSays, RequestSays, file_limit, second_limit}
 use Rattle.ql_app.specs.Words.{NamedRequest, IsRequest, OneFile, TwoFiles}
-use Rattle.ql_app.proofs.OutcomeLaws.{of_held}
+use Rattle.ql_app.proofs.OneFile.{of_bytes, of_whole}
 
 -- ---- the arguments
 
@@ -101,16 +101,38 @@ asks-verify words name other are (TwoFiles (Restart replica cut) n m) is = absur
 
 -- ---- the files
 
-module _ (limits : Limits) (held : List ℕ → Option (List ℕ)) (status : Status) (text : List ℕ) where
-  pub said-of-file : (command : Command) (name source : List ℕ) → held name ≡ Some source → (call : NamedRequest) → call ≡ OneFile command name → Judges limits held call status text
-      → (length source ≤ limits.file) × CommandSays command source status text
-  said-of-file command name source name_held call is says =
-      of_held limits.file (held name) (λ bytes. CommandSays command bytes status text) source name_held (subst (λ (c : NamedRequest). Judges limits held c status text) is says)
+module _ (first second : Reading) (status : Status) (text : List ℕ) where
+  pub said-of-file : (command : Command) (name source : List ℕ) → first ≡ Whole source → (status ≡ ReadFault → ⊥) → (status ≡ TooLarge → ⊥)
+      → (call : NamedRequest) → call ≡ OneFile command name → RequestSays call first second status text → (length source ≤ file_limit) × CommandSays command source status text
+  said-of-file command name source is no_fault small call same says =
+      of_whole file_limit name first (CommandSays command) status text source is no_fault small
+      (subst (λ (c : NamedRequest). RequestSays c first second status text) same says)
 
-  pub said-of-files : (command : PairCommand) (name other source more : List ℕ) → held name ≡ Some source → held other ≡ Some more → (call : NamedRequest) → call ≡ TwoFiles command name other → Judges limits held call status text
-      → PairSays command source more status text
-  said-of-files command name other source more name_held other_held call is says =
-      let both = of_held limits.file (held name) (λ bytes. IsRead (second_limit limits command) (held other) (λ m. PairSays command bytes m status text)) source name_held
-      (subst (λ (c : NamedRequest). Judges limits held c status text) is says) in
-      let all = of_held (second_limit limits command) (held other) (λ m. PairSays command source m status text) more other_held both.1 in
+  pub said-of-files : (command : PairCommand) (name other source more : List ℕ) → first ≡ Whole source → second ≡ Whole more → (status ≡ ReadFault → ⊥) → (status ≡ TooLarge → ⊥)
+      → (call : NamedRequest) → call ≡ TwoFiles command name other → RequestSays call first second status text → PairSays command source more status text
+  said-of-files command name other source more is too no_fault small call same says =
+      let both = of_whole file_limit name first (λ bytes. FileSays (second_limit command) other second (PairSays command bytes)) status text source is no_fault small
+      (subst (λ (c : NamedRequest). RequestSays c first second status text) same says) in
+      let all = of_whole (second_limit command) other second (PairSays command source) status text more too no_fault small both.1 in
       all.1
+
+  -- files within their limits are spoken of whatever the status
+  pub said-within : (command : PairCommand) (name other source more : List ℕ) → first ≡ Whole source → second ≡ Whole more → length source ≤ file_limit → length more ≤ second_limit command
+      → (call : NamedRequest) → call ≡ TwoFiles command name other → RequestSays call first second status text → PairSays command source more status text
+  said-within command name other source more is too short few call same says =
+      let one = of_bytes file_limit name first (λ bytes. FileSays (second_limit command) other second (PairSays command bytes)) status text source is short
+      (subst (λ (c : NamedRequest). RequestSays c first second status text) same says) in
+      of_bytes (second_limit command) other second (PairSays command source) status text more too few one
+
+-- yes and no are no faults
+pub done-read : Done ≡ ReadFault → ⊥
+done-read same = cc
+
+pub done-small : Done ≡ TooLarge → ⊥
+done-small same = cc
+
+pub no-read : No ≡ ReadFault → ⊥
+no-read same = cc
+
+pub no-small : No ≡ TooLarge → ⊥
+no-small same = cc

@@ -1,18 +1,16 @@
 -- The answer of `verify` where the levels that `classify` printed are kept.
 use Rattle.std.proofs.Common.{◌≡◌, inl, inr, ℕ, suc, ◌<◌, ◌≤◌, List, [], ◌∷◌, ◌++◌, length, map, Option, Some, slice_get, codes, refl, sym, ap, subst, ◌∙◌, arith}
-use Rattle.std.specs.Prelude.{IfSome}
 use Rattle.std.specs.List.{Contains}
 use Rattle.std.specs.Str.Lines.{lines}
 use Rattle.std.proofs.lemmas.Bool.{both_ways}
 use Rattle.std.proofs.lemmas.List.{append-nil, append_cancel_left, length-map}
 use Rattle.std.proofs.lemmas.Option.{same_Some, slice_get_within}
-use Rattle.ql_app.specs.declared.outcome.Limits.{Limits}
+use Rattle.ql_ports.specs.Readings.{Reading, Whole}
 use Rattle.ql_reply.specs.declared.status.Status.{Status}
 use Rattle.ql_reply.specs.declared.status.Status.TheVariants.{Done, No, Bad, ReadFault, WriteFault, Usage, TooLarge}
 use Rattle.ql_app.specs.declared.words.PairCommand.TheVariants.{Verify}
-use Rattle.ql_app.specs.Outcome.{IsOver, MeetsFault, MeetsLimit, Says}
-use Rattle.ql_reply.specs.Wrote.{Wrote}
-use Rattle.ql_app.specs.Words.{NamedRequest, TwoFiles}
+use Rattle.ql_app.specs.Outcome.{Says, file_limit}
+use Rattle.ql_app.specs.Words.{TwoFiles}
 use Rattle.ql_reply.specs.Arguments.{IsFileName}
 use Rattle.ql_commands.specs.Sources.{IsSourceOf}
 use Rattle.ql_typing.proofs.SameSource.{same-op-kinds}
@@ -33,10 +31,9 @@ use Rattle.ql_verify.specs.Verdicts.{AllOpsHold, AllTxnsHold, IsVerdict}
 use Rattle.ql_verify.specs.Work.{work_of}
 use Rattle.ql_verify.specs.declared.breach.Breach.{Breach}
 use Rattle.ql_verify.specs.declared.breach.Breach.TheVariants.{AtOp, AtTxn}
-use Rattle.ql_claim.specs.InTurn.{NothingFailed}
 use Rattle.ql_claim.specs.Kept.{KeepsLevels, AreKeptInTurn, IsUpheld}
 use Rattle.ql_claim.specs.Soundness.{op_with_level, txn_with_level}
-use Rattle.ql_claim.proofs.Asked.{asks-verify, said-of-files}
+use Rattle.ql_claim.proofs.Asked.{asks-verify, said-within}
 use Rattle.ql_claim.proofs.SoundClaims.{classified}
 use Rattle.ql_claim.proofs.SoundLines.{IsPrinted}
 
@@ -124,78 +121,34 @@ module _ (tree : (bytes : List ℕ) (s t : Source) → IsProgramText bytes s →
       let large = tells.4.0 in
       omega (arith, work, large)
 
-  module _ (limits : Limits) (words : List (List ℕ)) (held : List ℕ → Option (List ℕ)) (before after : List ℕ → ℕ) (was is : Option (List ℕ)) (faults sums : ℕ)
-      (again other : List ℕ) (are : words ≡ codes "verify" ∷ again ∷ other ∷ []) (again_named : IsFileName again) (other_named : IsFileName other)
-      (again_held : held again ≡ Some source) (other_held : held other ≡ Some file)
-      (small : length source ≤ limits.file) (within : length file ≤ limits.second) (nothing : NothingFailed before after again other faults sums) where
-    not-no : (t : List ℕ) → Says limits words held before after No t → ⊥
-    not-no t (inl asks) =
-        never-fails t (said-of-files limits held No t Verify again other source file again_held other_held asks.0 (asks-verify words again other are asks.0 asks.1) asks.2)
-    not-no t (inr usage) = let never : No ≡ Usage = usage.0 in cc
+  module _ (words : List (List ℕ)) (first second : Reading) (again other : List ℕ) (are : words ≡ codes "verify" ∷ again ∷ other ∷ []) (again_named : IsFileName again) (other_named : IsFileName other)
+      (again_read : first ≡ Whole source) (file_read : second ≡ Whole file) (small : length source ≤ file_limit) (within : length file ≤ 67108864) where
+    verified : (status : Status) (t : List ℕ) → Says words first second status t → VerifySays source file status t
+    verified status t (inl asks) =
+        said-within first second status t Verify again other source file again_read file_read small within asks.0 (asks-verify words again other are asks.0 asks.1) asks.2
+    verified status t (inr usage) = absurd (usage.1 (TwoFiles Verify again other, (are, tt, again_named, other_named), tt))
 
-    not-bad : (t : List ℕ) → Says limits words held before after Bad t → ⊥
-    not-bad t (inl asks) =
-        never-bad t (said-of-files limits held Bad t Verify again other source file again_held other_held asks.0 (asks-verify words again other are asks.0 asks.1) asks.2)
-    not-bad t (inr usage) = let never : Bad ≡ Usage = usage.0 in cc
+    pub upheld : (status : Status) (t : List ℕ) → VerifySays source file status t → IsUpheld p x status
+    upheld Done t says = inl refl
+    upheld No t says = absurd (never-fails t says)
+    upheld Bad t says = absurd (never-bad t says)
+    upheld ReadFault t says = absurd says
+    upheld WriteFault t says = absurd says
+    upheld Usage t says = absurd says
+    upheld TooLarge t says = inr (refl, much-work t says)
 
-    no-fault : (t : List ℕ) → MeetsFault limits held before after (TwoFiles Verify again other) t → ⊥
-    no-fault t (inl first) = nothing.first_file first.0
-    no-fault t (inr next) = nothing.second_file next.1.0
-
-    not-unread : (t : List ℕ) → Says limits words held before after ReadFault t → ⊥
-    not-unread t (inl asks) = no-fault t (subst (λ (c : NamedRequest). MeetsFault limits held before after c t) (asks-verify words again other are asks.0 asks.1) asks.2)
-    not-unread t (inr usage) = let never : ReadFault ≡ Usage = usage.0 in cc
-
-    not-usage : (t : List ℕ) → Says limits words held before after Usage t → ⊥
-    not-usage t (inl asks) = asks.2
-    not-usage t (inr usage) = usage.1 (TwoFiles Verify again other, (are, tt, again_named, other_named), tt)
-
-    not-over : (limit : ℕ) (name bytes t : List ℕ) → held name ≡ Some bytes → length bytes ≤ limit → IsOver limit held name t → ⊥
-    not-over limit name bytes t name_held less over =
-        let more = subst (λ (h : Option (List ℕ)). IfSome h (λ b. limit < length b)) name_held over.0 in
-        omega (arith, less, more)
-
-    no-limit : (t : List ℕ) → MeetsLimit limits held (TwoFiles Verify again other) t → ⊥
-    no-limit t (inl first) = not-over limits.file again source t again_held small first
-    no-limit t (inr next) = not-over limits.second other file t other_held within next.1
-
-    large : (t : List ℕ) → Says limits words held before after TooLarge t → 20000000 < work_of p x
-    large t (inl asks) = elim asks.2 [
-      | inl judges ↦ much-work t (said-of-files limits held TooLarge t Verify again other source file again_held other_held asks.0 (asks-verify words again other are asks.0 asks.1) judges)
-      | inr limit ↦ absurd (no-limit t (subst (λ (c : NamedRequest). MeetsLimit limits held c t) (asks-verify words again other are asks.0 asks.1) limit))
-    ]
-    large t (inr usage) = absurd (let never : TooLarge ≡ Usage = usage.0 in cc)
-
-    pub upheld : (status : Status) → Wrote (Says limits words held before after) was is faults sums status → IsUpheld p x status
-    upheld Done wrote = inl refl
-    upheld No wrote = absurd (not-no wrote.0 wrote.1)
-    upheld Bad wrote = absurd (not-bad wrote.0 wrote.1)
-    upheld ReadFault wrote = absurd (not-unread wrote.0 wrote.1)
-    upheld WriteFault wrote = absurd (nothing.sink wrote.0)
-    upheld Usage wrote = absurd (not-usage wrote.0 wrote.1)
-    upheld TooLarge wrote = inr (refl, large wrote.0 wrote.1)
+    pub all-upheld : (status : Status) (t : List ℕ) → Says words first second status t → IsUpheld p x status
+    all-upheld status t says = upheld status t (verified status t says)
 
 -- ---- both calls
 
 module _ (tree : (bytes : List ℕ) (s t : Source) → IsProgramText bytes s → IsProgramText bytes t → s ≡ t)
     (well : (p : Program) (file : List ℕ) (x : List Effect) → ReportsExecution p file x → IsExecution x)
     (fit : (p : Program) (file : List ℕ) (x : List Effect) → ReportsExecution p file x → FitsProgram (op_kinds p.types) x)
-    (limits : Limits) (words : List (List ℕ)) (held : List ℕ → Option (List ℕ)) (before after : List ℕ → ℕ) (was is : Option (List ℕ)) (faults sums : ℕ)
-    (wrote : Wrote (Says limits words held before after) was is faults sums Done)
-    (next : List (List ℕ)) (next_held : List ℕ → Option (List ℕ)) (turn : AreKeptInTurn words held was is next next_held) where
-  -- what was printed are these levels
-  printed : (length turn.source ≤ limits.file) × IsPrinted turn.source turn.levels
-  printed =
-      let text = classified limits words held before after was is faults sums turn.name turn.source turn.before turn.source_held turn.began turn.classifies wrote in
-      let both : Some (turn.before ++ text.0) ≡ Some (turn.before ++ turn.levels) = sym text.1 ∙ turn.wrote in
-      let ends : turn.before ++ text.0 ≡ turn.before ++ turn.levels = same_Some (turn.before ++ text.0) (turn.before ++ turn.levels) both in
-      (text.2, subst (λ (w : List ℕ). IsPrinted turn.source w) (append_cancel_left turn.before text.0 turn.levels ends) text.3)
-
-  pub kept-upheld : (next_before next_after : List ℕ → ℕ) (next_was next_is : Option (List ℕ)) (next_faults next_sums : ℕ) (status : Status)
-      → length turn.file ≤ limits.second → NothingFailed next_before next_after turn.again turn.other next_faults next_sums
-      → Wrote (Says limits next next_held next_before next_after) next_was next_is next_faults next_sums status
-      → IsUpheld turn.program turn.execution status
-  kept-upheld next_before next_after next_was next_is next_faults next_sums status within nothing ended =
-      upheld tree well fit turn.source turn.levels turn.file printed.1 turn.program turn.reads turn.execution turn.reports turn.kept
-      limits next next_held next_before next_after next_was next_is next_faults next_sums
-      turn.again turn.other turn.verifies turn.again_named turn.other_named turn.again_held turn.file_held printed.0 within nothing status ended
+    (words : List (List ℕ)) (first second : Reading) (levels : List ℕ) (says : Says words first second Done levels)
+    (next : List (List ℕ)) (next_first next_second : Reading) (turn : AreKeptInTurn words first levels next next_first next_second) where
+  pub kept-upheld : (status : Status) (t : List ℕ) → Says next next_first next_second status t → IsUpheld turn.program turn.execution status
+  kept-upheld status t ended =
+      let printed = classified words first second levels turn.name turn.source turn.source_read turn.classifies says in
+      all-upheld tree well fit turn.source levels turn.file printed.1 turn.program turn.reads turn.execution turn.reports turn.kept
+      next next_first next_second turn.again turn.other turn.verifies turn.again_named turn.other_named turn.again_read turn.file_read printed.0 turn.within status t ended

@@ -9,3 +9,4 @@ mod SoundClaims
 mod KeptClaims
 mod RunWritten
 mod LeastWritten
+mod WrittenClaims

@@ -1,20 +1,17 @@
 -- what is written with status 0 to `run` is the text of a run
 use Rattle.std.proofs.Common.{◌≡◌, inl, inr, ℕ, ◌≤◌, length, List, [], ◌++◌, Option, Some, get_or, arith, refl, ap, sym, subst, ◌∙◌}
-use Rattle.ql_ports.specs.Written.{appended}
-use Rattle.ql_app.specs.declared.outcome.Limits.{Limits}
+use Rattle.ql_ports.specs.Readings.{Reading, Whole}
 use Rattle.ql_reply.specs.declared.status.Status.TheVariants.{Done, Usage}
 use Rattle.ql_app.specs.declared.words.Command.TheVariants.{Holds, Proof, Classify, ClassifyWhy, Prove, Gen, Soak}
 use Rattle.ql_app.specs.declared.words.PairCommand.TheVariants.{Check, Verify, Run, Slim, Restart}
-use Rattle.ql_app.specs.Outcome.{Judges, Says}
-use Rattle.ql_reply.specs.Read.{IsRead}
-use Rattle.ql_reply.specs.Wrote.{Wrote}
+use Rattle.ql_app.specs.Outcome.{RequestSays, Says}
 use Rattle.ql_claim.specs.RunWritten.{WritesRun}
 use Rattle.ql_app.specs.Words.{NamedRequest, IsRequest, OneFile, TwoFiles, pair_words}
 use Rattle.ql_running.specs.declared.form.Form.{Form}
 use Rattle.ql_running.specs.declared.form.Form.TheVariants.{Text, Json}
 use Rattle.ql_running.specs.Forms.{format_of}
 use Rattle.ql_running.specs.Runs.{ReportsRun}
-use Rattle.ql_app.proofs.OutcomeLaws.{of_held}
+use Rattle.ql_claim.proofs.Asked.{done-read, done-small, said-of-files}
 
 -- the first byte of the first argument
 abbrev first : List (List ℕ) → ℕ
@@ -35,14 +32,12 @@ same_files Json Json n m name other same = (refl, (let one : n ≡ name = cc in 
 same_files Text Json n m name other same = absurd (let never : 3 ≡ 4 = ap length same in omega (arith, never))
 same_files Json Text n m name other same = absurd (let never : 4 ≡ 3 = ap length same in omega (arith, never))
 
-module _ (limits : Limits) (held : List ℕ → Option (List ℕ)) (form : Form) (name other source file text : List ℕ) (name_held : held name ≡ Some source) (other_held : held other ≡ Some file) where
-  reported : (f : Form) (n m : List ℕ) → f ≡ form → n ≡ name → m ≡ other → Judges limits held (TwoFiles (Run f) n m) Done text → ReportsRun (format_of form) source file text
+module _ (form : Form) (name other source file text : List ℕ) (read more : Reading) (is_read : read ≡ Whole source) (is_more : more ≡ Whole file) where
+  reported : (f : Form) (n m : List ℕ) → f ≡ form → n ≡ name → m ≡ other → RequestSays (TwoFiles (Run f) n m) read more Done text → ReportsRun (format_of form) source file text
   reported f n m f_is n_is m_is says =
-      let whole = of_held limits.file (held n) (λ bytes. IsRead limits.file (held m) (λ more. ReportsRun (format_of f) bytes more text)) source (ap held n_is ∙ name_held) says in
-      let both = of_held limits.file (held m) (λ more. ReportsRun (format_of f) source more text) file (ap held m_is ∙ other_held) whole.1 in
-      subst (λ (g : Form). ReportsRun (format_of g) source file text) f_is both.1
+      subst (λ (g : Form). ReportsRun (format_of g) source file text) f_is (said-of-files read more Done text (Run f) n m source file is_read is_more done-read done-small (TwoFiles (Run f) n m) refl says)
 
-  asked : (words : List (List ℕ)) → words ≡ pair_words (Run form) name other → (named : NamedRequest) → IsRequest words named → Judges limits held named Done text → ReportsRun (format_of form) source file text
+  asked : (words : List (List ℕ)) → words ≡ pair_words (Run form) name other → (named : NamedRequest) → IsRequest words named → RequestSays named read more Done text → ReportsRun (format_of form) source file text
   asked words are (OneFile Holds n) is says = absurd (let never : first (pair_words (Run form) name other) ≡ 104 = ap first (sym are ∙ is.0) in omega (arith, never, run_first form name other))
   asked words are (OneFile Proof n) is says = absurd (let never : first (pair_words (Run form) name other) ≡ 112 = ap first (sym are ∙ is.0) in omega (arith, never, run_first form name other))
   asked words are (OneFile Classify n) is says = absurd (let never : first (pair_words (Run form) name other) ≡ 99 = ap first (sym are ∙ is.0) in omega (arith, never, run_first form name other))
@@ -57,14 +52,6 @@ module _ (limits : Limits) (held : List ℕ → Option (List ℕ)) (form : Form)
       absurd (let never : length (pair_words (Run form) name other) ≡ 5 = ap length (sym are ∙ is.0) in omega (arith, never, run_length form name other))
   asked words are (TwoFiles (Run f) n m) is says = let same = same_files f form n m name other (sym is.0 ∙ are) in reported f n m same.0 same.1 same.2 says
 
-pub writes-run : (limits : Limits) (words : List (List ℕ)) (held : List ℕ → Option (List ℕ)) (before after : List ℕ → ℕ) (was is : Option (List ℕ)) (counts sums : ℕ)
-    → Wrote (Says limits words held before after) was is counts sums Done → WritesRun words held was is
-writes-run limits words held before after was is counts sums wrote form name other source file start are name_held other_held begun = by wrote.1 wrote.2
-  where
-    by : Says limits words held before after Done wrote.0 → is ≡ appended was wrote.0 → (text : List ℕ) × (is ≡ Some (start ++ text)) × ReportsRun (format_of form) source file text
-    by (inl asks) put = (
-      wrote.0,
-      put ∙ ap (λ (w : Option (List ℕ)). appended w wrote.0) begun,
-      asked limits held form name other source file wrote.0 name_held other_held words are asks.0 asks.1 asks.2,
-    )
-    by (inr usage) put = absurd (let never : Done ≡ Usage = usage.0 in cc)
+pub writes-run : (words : List (List ℕ)) (first second : Reading) (text : List ℕ) → Says words first second Done text → WritesRun words first second text
+writes-run words read more text (inl asks) form name other source file are is_read is_more = asked form name other source file text read more is_read is_more words are asks.0 asks.1 asks.2
+writes-run words read more text (inr usage) form name other source file are is_read is_more = absurd (let never : Done ≡ Usage = usage.0 in cc)

@@ -1,8 +1,9 @@
--- The headline as a reader meets it: what stands in the sink after a call of `quelea` that ended with status 0.
-use Rattle.std.specs.Prelude.{◌≡◌, ◌≢◌, ℕ, true, List, [], ◌∷◌, ◌++◌, Option, Some, codes, slice_get}
+-- The headline as a reader meets it: the answers with status 0 to `run` and to `prove`.
+use Rattle.std.specs.Prelude.{◌≡◌, ◌≢◌, ℕ, true, List, [], ◌∷◌, Some, codes, slice_get}
 use Rattle.std.specs.List.{AllZip}
 use Rattle.ql_app.specs.declared.words.PairCommand.TheVariants.{Run}
 use Rattle.ql_app.specs.Words.{pair_words}
+use Rattle.ql_ports.specs.Readings.{Reading, Whole}
 use Rattle.ql_cert.specs.declared.cert.Section.{Section}
 use Rattle.ql_cert.specs.CertFile.{cert_lines}
 use Rattle.ql_classify.specs.Targets.{goals_at}
@@ -75,16 +76,10 @@ pub record IsProvedCertificate (source text : List ℕ) : Type 0 where
   pub is_shown : text ≡ file_text (cert_lines sections)
   pub is_read : SpellsCert text sections
 
--- so much was taken before, and then a text of which this is so
-abbrev pub Gained : List ℕ → Option (List ℕ) → (List ℕ → Type 0) → Type 0
-Gained before is P = (text : List ℕ) × (is ≡ Some (before ++ text)) × P text
-
--- What a call of `quelea` with status 0 wrote: the arguments, what the shelf holds under each name, and what the sink took
--- before the call and after it.
-pub record Headline (words : List (List ℕ)) (held : List ℕ → Option (List ℕ)) (was is : Option (List ℕ)) : Type 0 where
+-- The answer with status 0: the arguments, what was read of the files that they name, and the text.
+pub record Headline (words : List (List ℕ)) (first second : Reading) (text : List ℕ) : Type 0 where
   -- to `run NAME OTHER` or `run --json NAME OTHER` the text of a run
-  pub run : (form : Form) (name other source file before : List ℕ) → words ≡ pair_words (Run form) name other
-      → held name ≡ Some source → held other ≡ Some file → was ≡ Some before → Gained before is (IsProvedRun form source file)
+  pub run : (form : Form) (name other source file : List ℕ) → words ≡ pair_words (Run form) name other
+      → first ≡ Whole source → second ≡ Whole file → IsProvedRun form source file text
   -- to `prove NAME` the text of a certificate
-  pub prove : (name source before : List ℕ) → words ≡ codes "prove" ∷ name ∷ []
-      → held name ≡ Some source → was ≡ Some before → Gained before is (IsProvedCertificate source)
+  pub prove : (name source : List ℕ) → words ≡ codes "prove" ∷ name ∷ [] → first ≡ Whole source → IsProvedCertificate source text

@@ -1,7 +1,8 @@
 -- `classify` of a source, and then `verify` of that source and of an execution in which the printed levels are kept.
-use Rattle.std.specs.Prelude.{◌≡◌, ◌⊎◌, ℕ, ◌<◌, ◌≤◌, List, [], ◌∷◌, ◌++◌, length, Option, Some, codes}
+use Rattle.std.specs.Prelude.{◌≡◌, ◌⊎◌, ℕ, ◌<◌, ◌≤◌, List, [], ◌∷◌, length, codes}
 use Rattle.std.specs.List.{Contains}
 use Rattle.std.specs.Str.Lines.{lines}
+use Rattle.ql_ports.specs.Readings.{Reading, Whole}
 use Rattle.ql_reply.specs.declared.status.Status.{Status}
 use Rattle.ql_reply.specs.declared.status.Status.TheVariants.{Done, TooLarge}
 use Rattle.ql_reply.specs.Arguments.{IsFileName}
@@ -30,17 +31,13 @@ pub record KeepsLevels (p : Program) (text : List ℕ) (x : List Effect) : Type 
   pub transactions : (a : ℕ) (effect : Effect) (run : RunId) (name : DeclId) (level : TxnLevel) → effect_at x a ≡ Some effect → effect.member ≡ Inside run name
       → Contains (lines text) (txn_with_level p name.0 level) → HoldsTxn x (txn_formula_of level) run.0
 
--- The arguments of both calls, what the shelf of each holds, and what the first one's sink took before it and after it.
-pub record AreKeptInTurn (words : List (List ℕ)) (held : List ℕ → Option (List ℕ)) (was is : Option (List ℕ)) (next : List (List ℕ)) (next_held : List ℕ → Option (List ℕ)) : Type 0 where
-  -- the first is `classify NAME` of a source, and wrote levels
+-- The arguments of both calls, what was read of the files of each, and the first one's text.
+pub record AreKeptInTurn (words : List (List ℕ)) (first : Reading) (levels : List ℕ) (next : List (List ℕ)) (next_first next_second : Reading) : Type 0 where
+  -- the first is `classify NAME` of a source
   pub name : List ℕ
   pub source : List ℕ
-  pub before : List ℕ
-  pub levels : List ℕ
   pub classifies : words ≡ codes "classify" ∷ name ∷ []
-  pub source_held : held name ≡ Some source
-  pub began : was ≡ Some before
-  pub wrote : is ≡ Some (before ++ levels)
+  pub source_read : first ≡ Whole source
   -- the second is `verify AGAIN OTHER` of the same source and of a file
   pub again : List ℕ
   pub other : List ℕ
@@ -48,8 +45,8 @@ pub record AreKeptInTurn (words : List (List ℕ)) (held : List ℕ → Option (
   pub verifies : next ≡ codes "verify" ∷ again ∷ other ∷ []
   pub again_named : IsFileName again
   pub other_named : IsFileName other
-  pub again_held : next_held again ≡ Some source
-  pub file_held : next_held other ≡ Some file
+  pub again_read : next_first ≡ Whole source
+  pub file_read : next_second ≡ Whole file
   -- which is within the limit of executions
   pub within : length file ≤ 67108864
   -- and reports an execution of the program that the source reads as
@@ -57,7 +54,7 @@ pub record AreKeptInTurn (words : List (List ℕ)) (held : List ℕ → Option (
   pub reads : IsProgramText source (source_of program)
   pub execution : List Effect
   pub reports : ReportsExecution program file execution
-  -- in which these levels are kept
+  -- in which the levels that the first answered are kept
   pub kept : KeepsLevels program levels execution
 
 -- the status of the second call: every contract holds in the execution, or judging them is too much work

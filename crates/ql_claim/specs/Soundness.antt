@@ -1,8 +1,9 @@
 -- Soundness alone, as a reader meets it: each level that `classify` prints, and each that `check` accepts, guarantees its
 -- target's contract in every execution. It says nothing of ground problems, of the solver or of hints.
-use Rattle.std.specs.Prelude.{◌≡◌, ◌⊎◌, ℕ, ◌<◌, List, [], ◌∷◌, ◌++◌, length, Option, Some, codes, slice_get}
+use Rattle.std.specs.Prelude.{◌≡◌, ◌⊎◌, ℕ, ◌<◌, List, [], ◌∷◌, ◌++◌, length, Some, codes, slice_get}
 use Rattle.std.specs.List.{Contains}
 use Rattle.std.specs.Str.Lines.{lines}
+use Rattle.ql_ports.specs.Readings.{Reading, Whole}
 use Rattle.ql_reply.specs.declared.status.Status.{Status}
 use Rattle.ql_reply.specs.declared.status.Status.TheVariants.{Done, No}
 use Rattle.ql_implication.specs.Executions.{IsImplied, IsImpliedTxn}
@@ -15,7 +16,6 @@ use Rattle.ql_levels.specs.declared.level.TxnLevel.{TxnLevel}
 use Rattle.ql_parse.specs.Parsing.{IsProgramText}
 use Rattle.ql_typing.specs.Operations.{all_ops, op_contracts, op_kinds, txn_contracts}
 use Rattle.ql_typing.specs.Names.{op_name, txn_name}
-use Rattle.ql_claim.specs.Headline.{Gained}
 
 -- the operation of a number with a level, as `op deposit causal`
 abbrev pub op_with_level : Program → ℕ → Level → List ℕ
@@ -47,12 +47,11 @@ pub record IsSoundAnswer (ending source text : List ℕ) : Type 0 where
   pub transactions : (d : ℕ) (level : TxnLevel) (contract : Resolved) → Contains (lines text) (txn_with_level program d level ++ ending)
       → slice_get (txn_contracts program) d ≡ Some contract → IsImpliedTxn (op_kinds program.types) level contract
 
--- What a call of `quelea` wrote that ended with a status: the arguments, what the shelf holds under each name, and what the
--- sink took before the call and after it.
-pub record Soundness (status : Status) (words : List (List ℕ)) (held : List ℕ → Option (List ℕ)) (was is : Option (List ℕ)) : Type 0 where
+-- The answer with a status: the arguments, what was read of the files that they name, and the text.
+pub record Soundness (status : Status) (words : List (List ℕ)) (first second : Reading) (text : List ℕ) : Type 0 where
   -- to `classify NAME`, with status 0, a text that is sound in each line
-  pub classify : (name source before : List ℕ) → status ≡ Done → words ≡ codes "classify" ∷ name ∷ []
-      → held name ≡ Some source → was ≡ Some before → Gained before is (IsSoundAnswer (codes "") source)
+  pub classify : (name source : List ℕ) → status ≡ Done → words ≡ codes "classify" ∷ name ∷ [] → first ≡ Whole source
+      → IsSoundAnswer (codes "") source text
   -- to `check NAME OTHER`, with status 0 or 1, a text that is sound in each line that ends in `accepted`
-  pub check : (name other source certificate before : List ℕ) → (status ≡ Done) ⊎ (status ≡ No) → words ≡ codes "check" ∷ name ∷ other ∷ []
-      → held name ≡ Some source → held other ≡ Some certificate → was ≡ Some before → Gained before is (IsSoundAnswer (codes " accepted") source)
+  pub check : (name other source certificate : List ℕ) → (status ≡ Done) ⊎ (status ≡ No) → words ≡ codes "check" ∷ name ∷ other ∷ []
+      → first ≡ Whole source → second ≡ Whole certificate → IsSoundAnswer (codes " accepted") source text

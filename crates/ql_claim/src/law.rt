@@ -1,9 +1,8 @@
-ghost use Rattle.std.specs.Prelude.{◌≡◌, ℕ, List, Option};
-ghost use Rattle.ql_app.specs.declared.outcome.Limits.{Limits};
+ghost use Rattle.std.specs.Prelude.{◌≡◌, ℕ, List};
+ghost use Rattle.ql_ports.specs.Readings.{Reading};
 ghost use Rattle.ql_reply.specs.declared.status.Status.{Status};
 ghost use Rattle.ql_reply.specs.declared.status.Status.TheVariants.{Done};
 ghost use Rattle.ql_app.specs.Outcome.{Says};
-ghost use Rattle.ql_reply.specs.Wrote.{Wrote};
 ghost use Rattle.ql_exec.specs.declared.effect.Effect.{Effect};
 ghost use Rattle.ql_exec.specs.Execution.{IsExecution};
 ghost use Rattle.ql_judging.specs.Verify.{ReportsExecution};
@@ -21,13 +20,12 @@ use ql_implication::countermodels_refute;
 use ql_parse::one_program_answer;
 use ql_verdicts::{accepted_lines_give_contracts, strong_uses_are_reported};
 
-/// The headline, of what `quelea` wrote by its clause `wrote`: with status 0, to `run` of a source and a schedule, the text
+/// The headline, of the answer by the clause `says` of `reply_to`: with status 0, to `run` of a source and a schedule, the text
 /// of the schedule's run at the source's least levels, in which every contract holds and each answer is the fold of what its
 /// effect sees; and to `prove` of a source, a certificate with a refutation for each of these levels.
 pub fn headline()
-    ensures { (limits : Limits) (words : List (List ℕ)) (held : List ℕ → Option (List ℕ))
-        (before after : List ℕ → ℕ) (was is : Option (List ℕ)) (faults sums : ℕ)
-        → Wrote (Says limits words held before after) was is faults sums Done → Headline words held was is }
+    ensures { (words : List (List ℕ)) (first second : Reading) (text : List ℕ)
+        → Says words first second Done text → Headline words first second text }
 {
     contracts_hold_in_runs();
     least_levels_are_one();
@@ -35,13 +33,11 @@ pub fn headline()
     strong_uses_are_reported();
 }
 
-/// Soundness alone, of what `quelea` wrote by its clause `wrote`: in every execution that fits the source's program, each
+/// Soundness alone, of the answer by the clause `says` of `reply_to`: in every execution that fits the source's program, each
 /// level that `classify` printed with status 0 guarantees its target's contract, and so does each that `check` accepted.
 pub fn soundness()
-    ensures { (status : Status) (limits : Limits) (words : List (List ℕ))
-        (held : List ℕ → Option (List ℕ)) (before after : List ℕ → ℕ) (was is : Option (List ℕ))
-        (faults sums : ℕ)
-        → Wrote (Says limits words held before after) was is faults sums status → Soundness status words held was is }
+    ensures { (status : Status) (words : List (List ℕ)) (first second : Reading) (text : List ℕ)
+        → Says words first second status text → Soundness status words first second text }
 {
     accepted_lines_give_contracts();
 }

@@ -1,11 +1,10 @@
-ghost use Rattle.std.specs.Prelude.{◌≡◌, ◌⊎◌, ℕ, List, Option};
-ghost use Rattle.ql_app.specs.declared.outcome.Limits.{Limits};
+ghost use Rattle.std.specs.Prelude.{◌≡◌, ◌⊎◌, ℕ, List};
+ghost use Rattle.ql_ports.specs.Readings.{Reading};
 ghost use Rattle.ql_reply.specs.declared.status.Status.{Status};
 ghost use Rattle.ql_reply.specs.declared.status.Status.TheVariants.{Done, No, TooLarge};
 ghost use Rattle.ql_app.specs.declared.words.Command.TheVariants.{Gen, Prove};
 ghost use Rattle.ql_app.specs.declared.words.PairCommand.TheVariants.{Check, Run, Verify};
 ghost use Rattle.ql_app.specs.Outcome.{CommandSays, PairSays, Says};
-ghost use Rattle.ql_reply.specs.Wrote.{Wrote};
 ghost use Rattle.ql_claim.specs.LeastWritten.{WritesLeast, WritesNone};
 ghost use Rattle.ql_claim.specs.RunWritten.{WritesJson, WritesRun};
 ghost use Rattle.ql_app.specs.Words.{IsInRange};
@@ -31,28 +30,22 @@ pub fn what_is_printed_is_accepted()
     what_is_proved_is_accepted();
 }
 
-/// The headline, of what `quelea` wrote by its clause `wrote`: with status 0, to `run` of a source and a schedule, a text
+/// The headline, of the answer by the clause `says` of `reply_to`: with status 0, to `run` of a source and a schedule, a text
 /// that shows the schedule's run at the source's least levels, in which each effect and each begun transaction meets its
 /// contract and each answer is its type's fold over exactly what its effect sees.
 pub fn contracts_hold_in_runs()
-    ensures { (limits : Limits) (words : List (List ℕ)) (held : List ℕ → Option (List ℕ))
-        (before after : List ℕ → ℕ) (was is : Option (List ℕ)) (faults sums : ℕ)
-        → Wrote (Says limits words held before after) was is faults sums Done
-        → WritesRun words held was is }
+    ensures { (words : List (List ℕ)) (first second : Reading) (text : List ℕ)
+        → Says words first second Done text → WritesRun words first second text }
 {}
 
-/// Levels are least over all executions, of what `quelea` wrote by its clause `wrote`: with status 0, to `classify` of a
+/// Levels are least over all executions, of the answer by the clause `says` of `reply_to`: with status 0, to `classify` of a
 /// source, levels that guarantee their contracts in every execution of the program, while each lower one fails in some; and with
 /// status 1 a refusal, in which the target that no level is enough for has an execution where the highest fails.
 pub fn levels_are_least()
-    ensures levels { (limits : Limits) (words : List (List ℕ)) (held : List ℕ → Option (List ℕ))
-        (before after : List ℕ → ℕ) (was is : Option (List ℕ)) (faults sums : ℕ)
-        → Wrote (Says limits words held before after) was is faults sums Done
-        → WritesLeast words held was is }
-    ensures none { (limits : Limits) (words : List (List ℕ)) (held : List ℕ → Option (List ℕ))
-        (before after : List ℕ → ℕ) (was is : Option (List ℕ)) (faults sums : ℕ)
-        → Wrote (Says limits words held before after) was is faults sums No
-        → WritesNone words held was is }
+    ensures levels { (words : List (List ℕ)) (first second : Reading) (text : List ℕ)
+        → Says words first second Done text → WritesLeast words first text }
+    ensures none { (words : List (List ℕ)) (first second : Reading) (text : List ℕ)
+        → Says words first second No text → WritesNone words first text }
 {
     reported_levels_are_least();
 }
@@ -93,11 +86,9 @@ pub fn generated_schedules_are_run()
     one_schedule();
 }
 
-/// The JSON text of a run reads back, of what `quelea` wrote by its clause `wrote`: with status 0, to `run --json` of a
+/// The JSON text of a run reads back, of the answer by the clause `says` of `reply_to`: with status 0, to `run --json` of a
 /// source and a schedule, a text that `serde_json`'s grammar reads as the run's value.
 pub fn json_runs_are_read_again()
-    ensures { (limits : Limits) (words : List (List ℕ)) (held : List ℕ → Option (List ℕ))
-        (before after : List ℕ → ℕ) (was is : Option (List ℕ)) (faults sums : ℕ)
-        → Wrote (Says limits words held before after) was is faults sums Done
-        → WritesJson words held was is }
+    ensures { (words : List (List ℕ)) (first second : Reading) (text : List ℕ)
+        → Says words first second Done text → WritesJson words first second text }
 {}

@@ -3,7 +3,7 @@
 // answer go to standard error, after it.
 #![tactic(auto)]
 
-use ql_app::carry_out;
+use ql_app::quelea;
 use ql_notes::write_notes;
 use ql_ports::{FileShelf, StdSink};
 use ql_reply::{arguments, exit_number};
@@ -20,7 +20,7 @@ fn main(rt: HostRuntime) -> ExitCode {
 fn run(rt: HostRuntime, words: &Vec<String>) -> u8 {
     let mut shelf = FileShelf::new(rt.alloc(), rt);
     let mut sink = StdSink::new(rt);
-    match carry_out(rt.alloc(), words, &mut shelf, &mut sink) {
+    match quelea(rt.alloc(), words, &mut shelf, &mut sink) {
         Ok(ended) => {
             write_notes(rt, words, &ended, shelf.failure());
             exit_number(Ok(ended.status))

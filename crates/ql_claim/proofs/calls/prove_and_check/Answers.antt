@@ -1,28 +1,20 @@
 use Rattle.std.proofs.Common.{subst}
-use Rattle.ql_app.specs.declared.outcome.Limits.{Limits}
-use Rattle.ql_app.specs.Outcome.{Says}
-use Rattle.ql_reply.specs.Wrote.{Wrote}
+use Rattle.ql_ports.specs.Readings.{reading_of}
+use Rattle.ql_reply.specs.declared.status.Status.{Status}
 use Rattle.ql_reply.specs.Arguments.{word_texts}
+use Rattle.ql_app.specs.Outcome.{Says}
 use Rattle.ql_claim.proofs.Claims.{accepted}
 use Rattle.ql_claim.proofs.calls.prove_and_check.Goals as goal
 
 pub returns : goal.returns
-returns g c =
-    let limits : Limits = record { file = 1048576; second = 67108864 } in
+returns c =
     let words = word_texts c.args.words.now in
-    let held = g.S.Shelf.held c.args.shelf.now in
-    let before = g.S.Shelf.faults c.args.shelf.now in
-    let after = g.S.Shelf.faults c.quelea.new.shelf in
-    let was = g.K.Sink.written c.args.sink.now in
-    let is = g.K.Sink.written c.quelea.new.sink in
-    let faults = g.K.Sink.faults c.args.sink.now in
-    let sums = g.K.Sink.faults c.quelea.new.sink in
+    let first = reading_of c.args.files.now.first in
+    let second = reading_of c.args.files.now.second in
+    let certificate = c.in_ok-proved.proved.text.items in
     record {
-      accepted = λ turn nothing done.
-          (accepted c.one_program_answer.ensures.tree limits words held before after was is faults sums
-          (subst (Wrote (Says limits words held before after) was is faults sums) done c.in_ok-proved.ensures.wrote)
-          (word_texts c.args.next.now) (g.T.Shelf.held c.args.next_shelf.now) turn
-          (g.T.Shelf.faults c.args.next_shelf.now) (g.T.Shelf.faults c.quelea-2.new.shelf) (g.L.Sink.written c.args.next_sink.now) (g.L.Sink.written c.quelea-2.new.sink)
-          (g.L.Sink.faults c.args.next_sink.now) (g.L.Sink.faults c.quelea-2.new.sink)
-          c.in_ok-checked.checked turn.within c.in_ok-checked.ensures.complete c.in_ok-checked.ensures.wrote nothing);
+      accepted = λ turn done.
+          (accepted c.one_program_answer.ensures.tree words first second certificate (subst (λ (s : Status). Says words first second s certificate) done c.in_ok-proved.ensures.says)
+          (word_texts c.args.next.now) (reading_of c.args.next_files.now.first) (reading_of c.args.next_files.now.second) turn
+          c.in_ok-checked.checked.status c.in_ok-checked.checked.text.items c.in_ok-checked.ensures.complete c.in_ok-checked.ensures.says);
     }

@@ -3,6 +3,6 @@ use Rattle.ql_claim.proofs.RunWritten.{writes-run}
 use Rattle.ql_claim.proofs.written.json_runs_are_read_again.Goals as goal
 
 pub returns : goal.returns
-returns c = λ limits words held before after was is faults sums wrote name other source file start are name_held other_held begun.
-    (let shown = writes-run limits words held before after was is faults sums wrote Json name other source file start are name_held other_held begun in
-    (shown.0, shown.1, shown.2, shown.2.prints.printed.again))
+returns c = λ words first second text says name other source file are is_first is_second.
+    (let shown = writes-run words first second text says Json name other source file are is_first is_second in
+    (shown, shown.prints.printed.again))
