@@ -1,4 +1,4 @@
-ghost use Rattle.std.specs.Prelude.{◌≡◌, ◌<◌, length, slice_get, Some, IfOk};
+ghost use Rattle.std.specs.Prelude.{◌≡◌, ◌<◌, length, slice_get, slice_set, Some, IfOk};
 
 use crate::level::{Level, TxnLevel};
 use ql_base::{DeclId, NoMemory, OpId};
@@ -49,11 +49,29 @@ impl Levels {
         self.ops[o.0 as usize]
     }
 
+    /// Sets the level of an operation.
+    pub fn set_op(&mut self, o: OpId, level: Level)
+        requires { o.0 < length self.old.ops }
+        ensures { self.new
+            ≡ record { ops = slice_set self.old.ops o.0 level; txns = self.old.txns } }
+    {
+        self.ops[o.0 as usize] = level;
+    }
+
     /// The level of a declared transaction.
     pub fn txn(&self, d: DeclId) -> TxnLevel
         requires { d.0 < length self.now.txns }
         ensures { slice_get self.now.txns d.0 ≡ Some result }
     {
         self.txns[d.0 as usize]
+    }
+
+    /// Sets the level of a declared transaction.
+    pub fn set_txn(&mut self, d: DeclId, level: TxnLevel)
+        requires { d.0 < length self.old.txns }
+        ensures { self.new
+            ≡ record { ops = self.old.ops; txns = slice_set self.old.txns d.0 level } }
+    {
+        self.txns[d.0 as usize] = level;
     }
 }

@@ -1,0 +1,4 @@
+pub mod Proved
+pub mod Once
+pub mod Lowered
+pub mod Started

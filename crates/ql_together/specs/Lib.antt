@@ -1,0 +1,4 @@
+pub mod Sufficient
+pub mod Proving
+pub mod Alone
+pub mod Together
