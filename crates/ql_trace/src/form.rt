@@ -79,10 +79,10 @@ pub(crate) fn form_of(alloc: Global, json: &Json) -> Result<Option<Form<'_>>, No
     if !members.keys().all(|key| is_key(key.as_str())) {
         return Ok(None);
     }
-    let (Some(heading), Some(values)) = (heading(members), values(members)) else {
+    let (Some(heading), Some(values)) = (heading_of(members), values_of(members)) else {
         return Ok(None);
     };
-    match sight(alloc, members)? {
+    match sight_of(alloc, members)? {
         Some(sight) => Ok(Some(Form {
             heading,
             values,
@@ -111,7 +111,7 @@ fn is_key(key: &str) -> bool {
     )
 }
 
-fn heading(members: &Members) -> Option<Heading<'_>> {
+fn heading_of(members: &Members) -> Option<Heading<'_>> {
     Some(Heading {
         id: id_of(members.get("id")?)?,
         session: id_of(members.get("session")?)?,
@@ -134,7 +134,7 @@ fn txn(json: Option<&Json>) -> Option<Option<Part<'_>>> {
     }
 }
 
-fn values(members: &Members) -> Option<Values<'_>> {
+fn values_of(members: &Members) -> Option<Values<'_>> {
     Some(Values {
         args: args(members.get("args"))?,
         answer: members.get("answer"),
@@ -158,7 +158,7 @@ fn payload(json: Option<&Json>) -> Option<Option<Given<'_>>> {
     }
 }
 
-fn sight(alloc: Global, members: &Members) -> Result<Option<Sight<'_>>, NoMemory> {
+fn sight_of(alloc: Global, members: &Members) -> Result<Option<Sight<'_>>, NoMemory> {
     let Some(vis) = listed(alloc, members.get("vis"))? else {
         return Ok(None);
     };
