@@ -3,7 +3,6 @@
 // The one contract: for all arguments and all files one text is written that the outcome allows.
 #![tactic(auto)]
 
-mod help;
 mod outcome;
 mod program;
 mod request;

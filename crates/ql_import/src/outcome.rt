@@ -1,4 +1,3 @@
-use crate::help::HELP;
 use crate::request::{Request, parse_words};
 use ql_base::{MAX_EXECUTION_BYTES, MAX_SOURCE_BYTES, NoMemory};
 use ql_imported::import;
@@ -15,7 +14,7 @@ pub(crate) fn outcome<S: Shelf>(
 ) -> Result<Answered, NoMemory> {
     match parse_words(words) {
         None => {
-            let text = Vec::from_slice(alloc, HELP.as_bytes())?;
+            let text = Vec::from_slice(alloc, b"usage\n")?;
             Ok(Answered::without_files(
                 alloc,
                 Reply {

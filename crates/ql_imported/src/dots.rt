@@ -45,7 +45,7 @@ impl Dots {
         own: u32,
         line: &Line,
     ) -> Result<(), NoMemory> {
-        for dot in &line.view.clock {
+        for dot in line.view.clock.dots() {
             for dotted in self.up_to(line.object.0, *dot) {
                 if dotted.line != own {
                     seen.push(dotted.line)?;

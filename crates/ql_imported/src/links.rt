@@ -24,9 +24,9 @@ pub(crate) fn links_of(alloc: Global, trace: &Trace) -> Result<Vec<Link>, NoMemo
 
 fn link(alloc: Global, trace: &Trace, dots: &Dots, k: usize) -> Result<Link, NoMemory> {
     let line = &trace.lines[k];
-    let mut seen = places(alloc, trace, &line.view.vis)?;
+    let mut seen = places(alloc, trace, line.view.vis.ids())?;
     dots.push_seen(&mut seen, k as u32, line)?;
-    let deps = places(alloc, trace, &line.view.deps)?;
+    let deps = places(alloc, trace, line.view.deps.ids())?;
     Ok(Link { seen, deps })
 }
 

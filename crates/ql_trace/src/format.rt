@@ -52,9 +52,9 @@ fn fault_of(trace: &Trace) -> Option<Broken<TraceRule>> {
 }
 
 fn reference_fault(trace: &Trace, line: &Line) -> Option<TraceRule> {
-    if !are_there(trace, &line.view.vis) || !are_there(trace, &line.view.deps) {
+    if !are_there(trace, line.view.vis.ids()) || !are_there(trace, line.view.deps.ids()) {
         Some(TraceRule::NoSuch)
-    } else if !are_on(trace, line.object, &line.view.vis) {
+    } else if !are_on(trace, line.object, line.view.vis.ids()) {
         Some(TraceRule::OtherObject)
     } else {
         None

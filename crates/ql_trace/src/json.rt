@@ -1,7 +1,6 @@
 // Parts of a JSON value.
-ghost use Rattle.std.specs.Prelude.{◌≡◌, ◌×◌, ⊥, IfOk, IsUtf8, MatchResult, Some, map};
+ghost use Rattle.std.specs.Prelude.{◌≡◌, map};
 ghost use Rattle.std.specs.Option.{option_map};
-ghost use Rattle.serde_json.specs.Data.{Data};
 ghost use Rattle.serde_json.specs.View.{view};
 ghost use Rattle.ql_trace.specs.Json.{as_count, as_items, as_pair};
 

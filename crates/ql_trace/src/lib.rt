@@ -16,7 +16,7 @@ mod rule;
 mod texts;
 mod trace;
 
-pub use line::{Dot, Line, View};
+pub use line::{Clock, Dot, Line, Refs, View};
 pub use parse::parse_trace;
 pub use rule::TraceRule;
 pub use texts::Texts;

@@ -3,7 +3,7 @@
 use crate::form::{Count, Form, Heading, Sight, form_of};
 use crate::ids::Id;
 use crate::json::count_of;
-use crate::line::{Dot, Line, View};
+use crate::line::{Clock, Dot, Line, Refs, View};
 use crate::meaning::{Called, Known, called_of, known_of};
 use crate::rule::TraceRule;
 use crate::texts::Texts;
@@ -182,21 +182,21 @@ impl Reading {
         })
     }
 
-    fn numbers(&mut self, ids: &Option<Vec<Id<'_>>>) -> Result<Vec<u32>, NoMemory> {
+    fn numbers(&mut self, ids: &Option<Vec<Id<'_>>>) -> Result<Refs, NoMemory> {
         match ids {
-            Some(ids) => self.trace.ids.number_ids(ids),
-            None => Ok(Vec::new(self.alloc)),
+            Some(ids) => Ok(Refs::of(self.trace.ids.number_ids(ids)?)),
+            None => Ok(Refs::of(Vec::new(self.alloc))),
         }
     }
 
-    fn clock(&mut self, counts: &Option<Vec<Count<'_>>>) -> Result<Vec<Dot>, NoMemory> {
+    fn clock(&mut self, counts: &Option<Vec<Count<'_>>>) -> Result<Clock, NoMemory> {
         let mut clock = Vec::new(self.alloc);
         if let Some(counts) = counts {
             for count in counts {
                 clock.push(dot_of(&mut self.trace.origins, *count)?)?;
             }
         }
-        Ok(clock)
+        Ok(Clock::of(clock))
     }
 
     // The first rule that a line breaks after those above it.

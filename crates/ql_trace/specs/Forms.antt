@@ -1,0 +1,130 @@
+-- What stands at the keys of a line.
+use Rattle.std.specs.Prelude.{ℕ, Bool, ◌||◌, List, [], ◌∷◌, map, codes, Option, None, Some, is_some, option_map, option_and_then, if◌then◌else◌}
+use Rattle.std.specs.List.{list_all, list_any}
+use Rattle.std.specs.Str.{bytes_eq}
+use Rattle.serde_json.specs.Data.{Data, null, Members}
+use Rattle.serde_json.specs.Find.{as_object, as_str, get_member}
+use Rattle.ql_trace.specs.Json.{as_count, as_id, as_items, as_pair, members_in}
+use Rattle.ql_trace.specs.Kinds.{each_as}
+
+-- the keys that a line may have
+unfoldable pub keys : List (List ℕ)
+keys =
+    codes "id" ∷ codes "session" ∷ codes "object" ∷ codes "op" ∷ codes "args" ∷ codes "answer" ∷ codes "payload"
+    ∷ codes "txn" ∷ codes "vis" ∷ codes "deps" ∷ codes "dot" ∷ codes "clock" ∷ codes "note" ∷ []
+
+unfoldable pub is_key : List ℕ → Bool
+is_key key = list_any (λ k. bytes_eq k key) keys
+
+-- whether each key is one of some
+abbrev pub are_keys : (List ℕ → Bool) → Members → Bool
+are_keys test ms = list_all (λ m. test m.0) (members_in ms)
+
+-- ---- parts
+
+-- an ID, and a name or a number with it
+abbrev pub with_id : {X : Type 0} → (Data → Option X) → Data × Data → Option (List ℕ × X)
+with_id second pair = option_and_then (λ id. option_map (λ x. (id, x)) (second pair.1)) (as_id pair.0)
+
+abbrev pub as_with_id : {X : Type 0} → (Data → Option X) → Data → Option (List ℕ × X)
+as_with_id second d = option_and_then (with_id second) (as_pair d)
+
+-- a member that may be absent
+abbrev pub if_there : {X : Type 0} → (Data → Option X) → Option Data → Option (Option X)
+if_there one None = Some None
+if_there one (Some d) = option_map Some (one d)
+
+-- a member that may be absent or null
+abbrev pub if_given : {X : Type 0} → (Data → Option X) → Option Data → Option (Option X)
+if_given one None = Some None
+if_given one (Some null) = Some None
+if_given one (Some d) = option_map Some (one d)
+
+-- a list of IDs
+abbrev pub as_ids : Data → Option (List (List ℕ))
+as_ids d = option_and_then (each_as as_id) (as_items d)
+
+-- counts by the texts of their origins
+unfoldable pub counts_in : List (List ℕ × Data) → Option (List (List ℕ × ℕ))
+counts_in [] = Some []
+counts_in (m ∷ ms) = option_and_then (λ n. option_map (λ rest. (m.0, n) ∷ rest) (counts_in ms)) (as_count m.1)
+
+abbrev pub as_counts : Data → Option (List (List ℕ × ℕ))
+as_counts d = option_and_then (λ ms. counts_in (members_in ms)) (as_object d)
+
+-- ---- the line
+
+-- which call it was
+pub record HeadingText : Type 0 where
+  pub id : List ℕ
+  pub session : List ℕ
+  pub object : List ℕ
+  pub op : List ℕ
+  pub txn : Option (List ℕ × List ℕ)
+
+-- with what it was called, and what it gave
+pub record ValueTexts : Type 0 where
+  pub args : List Data
+  pub answer : Option Data
+  pub payload : Option (Option (List Data))
+
+-- what it saw
+pub record SightText : Type 0 where
+  pub vis : Option (List (List ℕ))
+  pub deps : Option (List (List ℕ))
+  pub dot : Option (List ℕ × ℕ)
+  pub clock : Option (List (List ℕ × ℕ))
+
+pub record FormText : Type 0 where
+  pub heading : HeadingText
+  pub values : ValueTexts
+  pub sight : SightText
+
+-- whether the line says what its call saw
+abbrev pub is_given : SightText → Bool
+is_given s = is_some s.vis || is_some s.deps || is_some s.clock
+
+-- a member with a key
+abbrev pub there : {X : Type 0} → (Data → Option X) → Members → List ℕ → Option X
+there one ms key = option_and_then one (get_member key ms)
+
+abbrev pub heading_in : Members → Option HeadingText
+heading_in ms =
+    option_and_then (λ id. option_and_then (λ session. option_and_then (λ o. option_and_then (λ op.
+    option_map (λ txn. record { id = id; session = session; object = o; op = op; txn = txn })
+    (if_given (as_with_id as_str) (get_member (codes "txn") ms)))
+    (there as_str ms (codes "op"))) (there as_id ms (codes "object"))) (there as_id ms (codes "session"))) (there as_id ms (codes "id"))
+
+-- the arguments, none where they are absent
+abbrev pub args_in : Option Data → Option (List Data)
+args_in None = Some []
+args_in (Some d) = as_items d
+
+-- null, or a list
+abbrev pub as_payload : Data → Option (Option (List Data))
+as_payload null = Some None
+as_payload d = option_map Some (as_items d)
+
+abbrev pub values_in : Members → Option ValueTexts
+values_in ms =
+    option_and_then (λ args. option_map (λ payload. record { args = args; answer = get_member (codes "answer") ms; payload = payload })
+    (if_there as_payload (get_member (codes "payload") ms))) (args_in (get_member (codes "args") ms))
+
+abbrev pub sight_in : Members → Option SightText
+sight_in ms =
+    option_and_then (λ vis. option_and_then (λ deps. option_and_then (λ clock.
+    option_map (λ dot. record { vis = vis; deps = deps; dot = dot; clock = clock })
+    (if_there (as_with_id as_count) (get_member (codes "dot") ms)))
+    (if_there as_counts (get_member (codes "clock") ms))) (if_there as_ids (get_member (codes "deps") ms))) (if_there as_ids (get_member (codes "vis") ms))
+
+abbrev pub form_with : Members → Option FormText
+form_with ms =
+    option_and_then (λ heading. option_and_then (λ values. option_map (λ sight. record { heading = heading; values = values; sight = sight })
+    (sight_in ms)) (values_in ms)) (heading_in ms)
+
+-- what a line says at its keys, if it is an object with these keys alone and each is of its form
+abbrev pub form_in : Members → Option FormText
+form_in ms = if are_keys is_key ms then form_with ms else None
+
+abbrev pub as_form : Data → Option FormText
+as_form d = option_and_then form_in (as_object d)
