@@ -1,24 +1,32 @@
 -- What stands at the keys of a line.
-use Rattle.std.specs.Prelude.{ℕ, Bool, ◌||◌, List, [], ◌∷◌, map, codes, Option, None, Some, is_some, option_map, option_and_then, if◌then◌else◌}
+use Rattle.std.specs.Option.{option_map_or}
+use Rattle.std.specs.Prelude.{ℕ, Bool, false, ◌||◌, List, [], ◌∷◌, map, codes, Option, None, Some, is_some, option_map, option_and_then, if◌then◌else◌}
 use Rattle.std.specs.List.{list_all, list_any}
 use Rattle.std.specs.Str.{bytes_eq}
-use Rattle.serde_json.specs.Data.{Data, null, Members}
-use Rattle.serde_json.specs.Find.{as_object, as_str, get_member}
+use Rattle.serde_json.specs.Data.{Data, null}
+use Rattle.serde_json.specs.Find.{as_object, as_str, get}
 use Rattle.ql_trace.specs.Json.{as_count, as_id, as_items, as_pair, members_in}
 use Rattle.ql_trace.specs.Kinds.{each_as}
 
--- the keys that a line may have
-unfoldable pub keys : List (List ℕ)
-keys =
-    codes "id" ∷ codes "session" ∷ codes "object" ∷ codes "op" ∷ codes "args" ∷ codes "answer" ∷ codes "payload"
-    ∷ codes "txn" ∷ codes "vis" ∷ codes "deps" ∷ codes "dot" ∷ codes "clock" ∷ codes "note" ∷ []
+abbrev pub is_one_of : List (List ℕ) → List ℕ → Bool
+is_one_of keys key = list_any (λ k. bytes_eq k key) keys
 
-unfoldable pub is_key : List ℕ → Bool
-is_key key = list_any (λ k. bytes_eq k key) keys
+-- the keys that a line may have: which call it was, with what it was called and what it gave, what it saw, and `note`
+abbrev pub heading_keys : List (List ℕ)
+heading_keys = codes "id" ∷ codes "session" ∷ codes "object" ∷ codes "op" ∷ codes "txn" ∷ []
 
--- whether each key is one of some
-abbrev pub are_keys : (List ℕ → Bool) → Members → Bool
-are_keys test ms = list_all (λ m. test m.0) (members_in ms)
+abbrev pub value_keys : List (List ℕ)
+value_keys = codes "args" ∷ codes "answer" ∷ codes "payload" ∷ []
+
+abbrev pub sight_keys : List (List ℕ)
+sight_keys = codes "vis" ∷ codes "deps" ∷ codes "dot" ∷ codes "clock" ∷ []
+
+abbrev pub is_key : List ℕ → Bool
+is_key key = is_one_of heading_keys key || is_one_of value_keys key || is_one_of sight_keys key || bytes_eq (codes "note") key
+
+-- an object, of which each key passes a test
+abbrev pub has_keys : (List ℕ → Bool) → Data → Bool
+has_keys test d = option_map_or (λ ms. list_all (λ m. test m.0) (members_in ms)) (as_object d) false
 
 -- ---- parts
 
@@ -44,10 +52,12 @@ if_given one (Some d) = option_map Some (one d)
 abbrev pub as_ids : Data → Option (List (List ℕ))
 as_ids d = option_and_then (each_as as_id) (as_items d)
 
--- counts by the texts of their origins
-unfoldable pub counts_in : List (List ℕ × Data) → Option (List (List ℕ × ℕ))
-counts_in [] = Some []
-counts_in (m ∷ ms) = option_and_then (λ n. option_map (λ rest. (m.0, n) ∷ rest) (counts_in ms)) (as_count m.1)
+-- the count of an origin
+abbrev pub count_in : List ℕ × Data → Option (List ℕ × ℕ)
+count_in m = option_map (λ n. (m.0, n)) (as_count m.1)
+
+abbrev pub counts_in : List (List ℕ × Data) → Option (List (List ℕ × ℕ))
+counts_in ms = each_as count_in ms
 
 abbrev pub as_counts : Data → Option (List (List ℕ × ℕ))
 as_counts d = option_and_then (λ ms. counts_in (members_in ms)) (as_object d)
@@ -84,16 +94,16 @@ pub record FormText : Type 0 where
 abbrev pub is_given : SightText → Bool
 is_given s = is_some s.vis || is_some s.deps || is_some s.clock
 
--- a member with a key
-abbrev pub there : {X : Type 0} → (Data → Option X) → Members → List ℕ → Option X
-there one ms key = option_and_then one (get_member key ms)
+-- what a member with a key is
+abbrev pub there : {X : Type 0} → (Data → Option X) → List ℕ → Data → Option X
+there one key d = option_and_then one (get key d)
 
-abbrev pub heading_in : Members → Option HeadingText
-heading_in ms =
+abbrev pub heading_in : Data → Option HeadingText
+heading_in d =
     option_and_then (λ id. option_and_then (λ session. option_and_then (λ o. option_and_then (λ op.
     option_map (λ txn. record { id = id; session = session; object = o; op = op; txn = txn })
-    (if_given (as_with_id as_str) (get_member (codes "txn") ms)))
-    (there as_str ms (codes "op"))) (there as_id ms (codes "object"))) (there as_id ms (codes "session"))) (there as_id ms (codes "id"))
+    (if_given (as_with_id as_str) (get (codes "txn") d)))
+    (there as_str (codes "op") d)) (there as_id (codes "object") d)) (there as_id (codes "session") d)) (there as_id (codes "id") d)
 
 -- the arguments, none where they are absent
 abbrev pub args_in : Option Data → Option (List Data)
@@ -105,26 +115,23 @@ abbrev pub as_payload : Data → Option (Option (List Data))
 as_payload null = Some None
 as_payload d = option_map Some (as_items d)
 
-abbrev pub values_in : Members → Option ValueTexts
-values_in ms =
-    option_and_then (λ args. option_map (λ payload. record { args = args; answer = get_member (codes "answer") ms; payload = payload })
-    (if_there as_payload (get_member (codes "payload") ms))) (args_in (get_member (codes "args") ms))
+abbrev pub values_in : Data → Option ValueTexts
+values_in d =
+    option_and_then (λ args. option_map (λ payload. record { args = args; answer = get (codes "answer") d; payload = payload })
+    (if_there as_payload (get (codes "payload") d))) (args_in (get (codes "args") d))
 
-abbrev pub sight_in : Members → Option SightText
-sight_in ms =
+abbrev pub sight_in : Data → Option SightText
+sight_in d =
     option_and_then (λ vis. option_and_then (λ deps. option_and_then (λ clock.
     option_map (λ dot. record { vis = vis; deps = deps; dot = dot; clock = clock })
-    (if_there (as_with_id as_count) (get_member (codes "dot") ms)))
-    (if_there as_counts (get_member (codes "clock") ms))) (if_there as_ids (get_member (codes "deps") ms))) (if_there as_ids (get_member (codes "vis") ms))
+    (if_there (as_with_id as_count) (get (codes "dot") d)))
+    (if_there as_counts (get (codes "clock") d))) (if_there as_ids (get (codes "deps") d))) (if_there as_ids (get (codes "vis") d))
 
-abbrev pub form_with : Members → Option FormText
-form_with ms =
+abbrev pub form_with : Data → Option FormText
+form_with d =
     option_and_then (λ heading. option_and_then (λ values. option_map (λ sight. record { heading = heading; values = values; sight = sight })
-    (sight_in ms)) (values_in ms)) (heading_in ms)
+    (sight_in d)) (values_in d)) (heading_in d)
 
 -- what a line says at its keys, if it is an object with these keys alone and each is of its form
-abbrev pub form_in : Members → Option FormText
-form_in ms = if are_keys is_key ms then form_with ms else None
-
 abbrev pub as_form : Data → Option FormText
-as_form d = option_and_then form_in (as_object d)
+as_form d = if has_keys is_key d then form_with d else None

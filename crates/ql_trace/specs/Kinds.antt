@@ -43,7 +43,7 @@ as_entry b c d = option_and_then (entry_in b c) (as_pair d)
 -- ---- lists
 
 -- what each item is, if each is something
-unfoldable pub each_as : {X : Type 0} → (Data → Option X) → List Data → Option (List X)
+unfoldable pub each_as : {D X : Type 0} → (D → Option X) → List D → Option (List X)
 each_as one [] = Some []
 each_as one (d ∷ ds) = option_and_then (λ x. option_map (λ xs. x ∷ xs) (each_as one ds)) (one d)
 

@@ -10,14 +10,14 @@ use serde_json::Value as Json;
 
 /// An ID as a line spells it.
 #[derive(Clone, Copy)]
-pub(crate) enum Id<'a> {
+pub enum Id<'a> {
     Text(&'a str),
     /// An integer below 2^53.
     Number(u64),
 }
 
 /// The ID that a JSON value spells.
-pub(crate) fn id_of(json: &Json) -> Option<Id<'_>>
+pub fn id_of(json: &Json) -> Option<Id<'_>>
     ensures { option_map id_text result ≡ as_id (view json.now) }
 {
     match json.as_str() {

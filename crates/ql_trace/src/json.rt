@@ -10,7 +10,7 @@ use serde_json::Value as Json;
 const NUMBER_END: u64 = 9_007_199_254_740_992;
 
 /// An integer from 0 below 2^53.
-pub(crate) fn count_of(json: &Json) -> Option<u64>
+pub fn count_of(json: &Json) -> Option<u64>
     ensures { result ≡ as_count (view json.now) }
 {
     let number = json.as_u64()?;

@@ -1,5 +1,5 @@
 // Values of declared kinds.
-ghost use Rattle.std.specs.Prelude.{◌≡◌, ◌≤◌, IfOk, OnOk, IsTrue, not, length, map};
+ghost use Rattle.std.specs.Prelude.{◌≡◌, ◌≤◌, IfOk, IfSome, IsTrue, not, length, map};
 ghost use Rattle.serde_json.specs.View.{view};
 ghost use Rattle.ql_value.specs.Collections.{Ascends};
 ghost use Rattle.ql_value.specs.Order.{key_cmp, scalar_cmp};
@@ -126,8 +126,9 @@ fn truth_scalar(json: &Json) -> Option<Scalar>
 
 // At most 256 items of a list.
 fn few_items(json: &Json) -> Option<&[Json]>
-    ensures few { option_map (λ items. map view items.now) result
+    ensures items { option_map (λ items. map view items.now) result
         ≡ option_and_then if_few (as_items (view json.now)) }
+    ensures few { IfSome result (λ items. length items.now ≤ 256) }
 {
     let items = items_of(json)?;
     if items.len() <= MAX_ENTRIES {

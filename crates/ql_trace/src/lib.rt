@@ -1,23 +1,17 @@
-// Traces: what a team recorded of its service, a line of JSON for each call.
-// The one contract: reading a trace returns what its lines say, or its first fault: the first line that breaks a rule by
-// itself or with the lines above it, or else the first that refers to a line that isn't there or is on another object.
+// The lines of traces: what one line of JSON says of a call of a service.
+// The one contract: the form of a line is what the definitions say of the JSON value that it is, and so are its names and
+// values in a program, or it has none.
 #![tactic(auto)]
 
 mod form;
-mod format;
 mod ids;
 mod json;
 mod kinds;
-mod line;
+mod line_json;
 mod meaning;
-mod parse;
-mod reading;
-mod rule;
-mod texts;
-mod trace;
 
-pub use line::{Clock, Dot, Line, Refs, View};
-pub use parse::parse_trace;
-pub use rule::TraceRule;
-pub use texts::Texts;
-pub use trace::{Quiet, Trace};
+pub use form::{Count, Form, Given, Heading, Part, Sight, Values, form_of};
+pub use ids::{Id, id_of};
+pub use json::count_of;
+pub use line_json::json_of;
+pub use meaning::{Called, Known, called_of, known_of};

@@ -1,12 +1,27 @@
-// What a line means in a program: its operation, its transaction's name, and its values.
+// What a line's names and values are in a program.
+ghost use Rattle.std.specs.Prelude.{◌≡◌, ◌<◌, IfOk, IfSome, length, map};
+ghost use Rattle.std.specs.Option.{option_map};
+ghost use Rattle.serde_json.specs.View.{view};
+ghost use Rattle.ql_typing.specs.Operations.{all_ops};
+ghost use Rattle.ql_value.specs.Contents.{value_of_scalar};
+ghost use Rattle.ql_trace.specs.FormTexts.{given_texts, heading_text, part_text, value_texts};
+ghost use Rattle.ql_trace.specs.Forms.{if_there};
+ghost use Rattle.ql_trace.specs.Kinds.{as_value};
+ghost use Rattle.ql_trace.specs.Meaning.{
+  args_as,
+  binds_as,
+  called_in,
+  decl_in,
+  known_in,
+  payload_as,
+  payload_in,
+};
 
-use crate::form::{Given, Heading, Values as ValueForms};
+use crate::form::{Given, Heading, Part, Values as ValueForms};
 use crate::kinds::{scalar_of, value_of};
-use crate::rule::TraceRule;
 use ql_base::{DeclId, NoMemory, OpId};
 use ql_exec::Payload;
 use ql_lang::{Bind, EmitDecl, OpDecl, Param};
-use ql_lines::LineFault;
 use ql_typing::Typed;
 use ql_value::{Scalar, Value, Values};
 use serde_json::Value as Json;
@@ -14,53 +29,71 @@ use std::alloc::Global;
 
 /// The operation of a line, and the declared name of its transaction, if it has one.
 #[derive(Clone, Copy)]
-pub(crate) struct Known {
-    pub(crate) op: OpId,
-    pub(crate) decl: Option<DeclId>,
+pub struct Known {
+    pub op: OpId,
+    pub decl: Option<DeclId>,
 }
 
 /// What the program has of these names; `None` if it lacks one.
-pub(crate) fn known_of(t: &Typed, heading: &Heading<'_>) -> Option<Known> {
+pub fn known_of(t: &Typed, heading: &Heading<'_>) -> Option<Known>
+    ensures known { result ≡ known_in t.now.program (heading_text heading.now) }
+    ensures within { IfSome result
+        (λ known. known.op.0 < length (all_ops t.now.program.types)) }
+{
     let op = t.op_named(heading.op.as_bytes())?;
-    match heading.txn {
-        None => Some(Known { op, decl: None }),
+    let decl = decl_of(t, heading.txn)?;
+    Some(Known { op, decl })
+}
+
+fn decl_of(t: &Typed, txn: Option<Part<'_>>) -> Option<Option<DeclId>>
+    ensures { result ≡ decl_in t.now.program (option_map part_text txn.entry) }
+{
+    match txn {
+        None => Some(None),
         Some(part) => {
             let decl = t.txn_named(part.name.as_bytes())?;
-            Some(Known {
-                op,
-                decl: Some(decl),
-            })
+            Some(Some(decl))
         }
     }
 }
 
 /// The values of a call.
 #[derive(Drop)]
-pub(crate) struct Called {
-    pub(crate) args: Values,
-    pub(crate) answer: Option<Value>,
-    pub(crate) payload: Option<Payload>,
+pub struct Called {
+    pub args: Values,
+    /// What it answered, if that is known.
+    pub answer: Option<Value>,
+    /// What it changed, if that is given.
+    pub payload: Option<Payload>,
 }
 
 /// The values of a call of an operation, if they are of its numbers and kinds.
-pub(crate) fn called_of(
+pub fn called_of(
     alloc: Global,
     op: &OpDecl,
     forms: &ValueForms<'_>,
-) -> Result<Called, LineFault<TraceRule>> {
-    let args = args(alloc, op.params.items(), forms.args)?.ok_or(KIND)?;
-    let answer = answer(alloc, op, forms.answer)?.ok_or(KIND)?;
-    let payload = payload(alloc, &op.effect, forms.payload)?.ok_or(KIND)?;
-    Ok(Called {
-        args,
-        answer,
-        payload,
-    })
+) -> Result<Option<Called>, NoMemory>
+    ensures { IfOk result (λ called. called ≡ called_in op.now (value_texts forms.now)) }
+{
+    let Some(args) = args(alloc, op.params.items(), forms.args)? else {
+        return Ok(None);
+    };
+    let Some(answer) = answer(alloc, op, forms.answer)? else {
+        return Ok(None);
+    };
+    match payload(alloc, &op.effect, forms.payload)? {
+        Some(payload) => Ok(Some(Called {
+            args,
+            answer,
+            payload,
+        })),
+        None => Ok(None),
+    }
 }
 
-const KIND: LineFault<TraceRule> = LineFault::Breaks(TraceRule::Kind);
-
-fn args(alloc: Global, params: &[Param], items: &[Json]) -> Result<Option<Values>, NoMemory> {
+fn args(alloc: Global, params: &[Param], items: &[Json]) -> Result<Option<Values>, NoMemory>
+    ensures { IfOk result (λ args. args ≡ args_as params.now (map view items.now)) }
+{
     if params.len() != items.len() {
         return Ok(None);
     }
@@ -74,7 +107,9 @@ fn args(alloc: Global, params: &[Param], items: &[Json]) -> Result<Option<Values
     Ok(Some(Values::of(values)))
 }
 
-fn value_from(scalar: Scalar) -> Value {
+fn value_from(scalar: Scalar) -> Value
+    ensures { result ≡ value_of_scalar scalar }
+{
     match scalar {
         Scalar::Int(number) => Value::Int(number),
         Scalar::Bool(truth) => Value::Bool(truth),
@@ -86,7 +121,10 @@ fn answer(
     alloc: Global,
     op: &OpDecl,
     form: Option<&Json>,
-) -> Result<Option<Option<Value>>, NoMemory> {
+) -> Result<Option<Option<Value>>, NoMemory>
+    ensures { IfOk result
+        (λ answer. answer ≡ if_there (as_value op.now.kind) (option_map (λ d. view d.now) form.entry)) }
+{
     match form {
         None => Ok(Some(None)),
         Some(json) => match value_of(alloc, op.kind, json)? {
@@ -100,20 +138,46 @@ fn payload(
     alloc: Global,
     effect: &Option<EmitDecl>,
     form: Option<Given<'_>>,
-) -> Result<Option<Option<Payload>>, NoMemory> {
-    match (form, effect) {
-        (None, _) => Ok(Some(None)),
-        (Some(Given::Nothing), _) => Ok(Some(Some(Payload::Nothing))),
-        (Some(Given::Values(items)), Some(emit)) => emitted(alloc, emit.binds.items(), items),
-        (Some(Given::Values(_)), None) => Ok(None),
+) -> Result<Option<Option<Payload>>, NoMemory>
+    ensures { IfOk result
+        (λ payload. payload ≡ payload_in effect.now (option_map given_texts form.entry)) }
+{
+    match form {
+        None => Ok(Some(None)),
+        Some(given) => match given_payload(alloc, effect, given)? {
+            Some(payload) => Ok(Some(Some(payload))),
+            None => Ok(None),
+        },
     }
 }
 
-fn emitted(
+fn given_payload(
     alloc: Global,
-    binds: &[Bind],
-    items: &[Json],
-) -> Result<Option<Option<Payload>>, NoMemory> {
+    effect: &Option<EmitDecl>,
+    given: Given<'_>,
+) -> Result<Option<Payload>, NoMemory>
+    ensures { IfOk result (λ payload. payload ≡ payload_as effect.now (given_texts given.entry)) }
+{
+    match (given, effect) {
+        (Given::Nothing, _) => Ok(Some(Payload::Nothing)),
+        (Given::Values(items), Some(emit)) => emitted(alloc, emit.binds.items(), items),
+        (Given::Values(_), None) => Ok(None),
+    }
+}
+
+fn emitted(alloc: Global, binds: &[Bind], items: &[Json]) -> Result<Option<Payload>, NoMemory>
+    ensures { IfOk result
+        (λ payload. payload ≡ option_map (λ vs. Payload.Emitted vs) (binds_as binds.now (map view items.now))) }
+{
+    match bound(alloc, binds, items)? {
+        Some(values) => Ok(Some(Payload::Emitted(values))),
+        None => Ok(None),
+    }
+}
+
+fn bound(alloc: Global, binds: &[Bind], items: &[Json]) -> Result<Option<Values>, NoMemory>
+    ensures { IfOk result (λ values. values ≡ binds_as binds.now (map view items.now)) }
+{
     if binds.len() != items.len() {
         return Ok(None);
     }
@@ -124,5 +188,5 @@ fn emitted(
             None => return Ok(None),
         }
     }
-    Ok(Some(Some(Payload::Emitted(Values::of(values)))))
+    Ok(Some(Values::of(values)))
 }

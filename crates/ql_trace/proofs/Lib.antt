@@ -1,0 +1,4 @@
+mod JsonLists
+mod Each
+mod Among
+mod Turns
