@@ -1,7 +1,8 @@
 // Which lines a call saw by its clock.
 
+use crate::line::{Dot, Line};
+use crate::trace::Trace;
 use ql_base::NoMemory;
-use ql_trace::{Dot, Line, Trace};
 use std::alloc::Global;
 
 // A line's dot, on its object.

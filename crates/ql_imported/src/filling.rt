@@ -232,12 +232,7 @@ impl Filling {
     }
 
     // Whether all lines of a unit are placed, and they and what happened before them are covered.
-    fn is_unit_covered(
-        &mut self,
-        recorded: &Recorded<'_>,
-        covers: &[Cover],
-        unit: usize,
-    ) -> bool {
+    fn is_unit_covered(&mut self, recorded: &Recorded<'_>, covers: &[Cover], unit: usize) -> bool {
         if self.judged[unit].round != self.round {
             self.judged[unit] = Judged {
                 round: self.round,
@@ -251,9 +246,8 @@ impl Filling {
         self.done[unit] == self.units.lines[unit].len()
             && self.units.lines[unit].iter().all(|line| {
                 let object = recorded.trace.lines[*line as usize].object.0;
-                covers
-                    .iter()
-                    .all(|cover| cover.object != object || self.is_covered(&cover.view, *line))
+                covers.iter().all(|cover| cover.object != object
+                    || self.is_covered(&cover.view, *line))
             })
     }
 
@@ -322,8 +316,7 @@ impl Filling {
             let object = recorded.trace.lines[*other as usize].object.0;
             !self.placed.loud[*other as usize]
                 || covers.iter().all(|cover| {
-                    cover.object != object
-                        || cover.view.has(recorded.places.of[*other as usize])
+                    cover.object != object || cover.view.has(recorded.places.of[*other as usize])
                 })
         })
     }

@@ -7,8 +7,8 @@ use crate::rule::TraceRule;
 use crate::trace::Trace;
 use ql_base::ObjId;
 use ql_lines::{Broken, FileFault, LineFault};
+use ql_trace::json_of;
 use ql_typing::Typed;
-use serde_json::{Category, Value as Json};
 use std::alloc::Global;
 
 /// The format of traces of a program.
@@ -22,11 +22,7 @@ pub(crate) fn read(f: &Format<'_>, bytes: &[u8]) -> Result<Trace, FileFault<Trac
     let mut lines = ql_lines::Lines::of(bytes);
     let mut reading = Reading::new(f.alloc);
     while let Some(line) = lines.next_line() {
-        let json = match json_of(f.alloc, line.text) {
-            Ok(json) => json,
-            Err(fault) => return Err(fault.at(line.number)),
-        };
-        match reading.add(f.t, line.number, &json) {
+        match add(f, &mut reading, line.number, line.text) {
             Ok(()) => {}
             Err(fault) => return Err(fault.at(line.number)),
         }
@@ -72,13 +68,15 @@ fn are_on(trace: &Trace, object: ObjId, ids: &[u32]) -> bool {
     })
 }
 
-// The JSON value that a line is.
-fn json_of(alloc: Global, text: &[u8]) -> Result<Json, LineFault<TraceRule>> {
-    match Json::from_slice(alloc, text) {
-        Ok(json) => Ok(json),
-        Err(error) => match error.classify() {
-            Category::Memory => Err(LineFault::NoMemory),
-            _ => Err(LineFault::Breaks(TraceRule::Json)),
-        },
+// Reads one more line.
+fn add(
+    f: &Format<'_>,
+    reading: &mut Reading,
+    number: u64,
+    text: &[u8],
+) -> Result<(), LineFault<TraceRule>> {
+    match json_of(f.alloc, text)? {
+        Some(json) => reading.add(f.t, number, &json),
+        None => Err(LineFault::Breaks(TraceRule::Json)),
     }
 }

@@ -3,7 +3,10 @@ use crate::links::links_of;
 use crate::map_text::push_map;
 use crate::numbers::numbers_of;
 use crate::order::{Steps, first_unplaced, recorded_order};
+use crate::parse::parse_trace;
 use crate::placing::{Recorded, place_all};
+use crate::rule::TraceRule;
+use crate::trace::Trace;
 use crate::views::{Places, recorded_views};
 use ql_base::{NoMemory, push_bytes};
 use ql_commands::{bad_source, read_source};
@@ -11,7 +14,6 @@ use ql_eval::TypedFolder;
 use ql_lines::{Broken, FileFault};
 use ql_reply::{Cause, Reply, Status, bad_line};
 use ql_run_text::print_effects;
-use ql_trace::{Trace, TraceRule, parse_trace};
 use ql_typing::Typed;
 use std::alloc::Global;
 

@@ -1,8 +1,8 @@
 // The lines that make effects: those whose answer is known, and those that one of these refers to.
 
 use crate::links::Link;
+use crate::trace::Trace;
 use ql_base::NoMemory;
-use ql_trace::Trace;
 use std::alloc::Global;
 
 /// Of each line whether it is kept.

@@ -62,7 +62,7 @@ impl Drop for Clock {
 
 impl Model for Clock {
     ghost use Rattle.std.specs.Prelude.{List};
-    ghost use Rattle.ql_trace.specs.declared.line.Dot.{Dot};
+    ghost use Rattle.ql_imported.specs.declared.line.Dot.{Dot};
 
     ghost Value = { List Dot };
 

@@ -1,6 +1,6 @@
 use crate::dots::Dots;
+use crate::trace::Trace;
 use ql_base::NoMemory;
-use ql_trace::Trace;
 use std::alloc::Global;
 
 /// The lines that a line refers to, each counted from 0.

@@ -1,8 +1,9 @@
 // The lines before an execution that map its numbers and names to the trace's.
 
 use crate::numbers::Numbers;
+use crate::texts::Texts;
+use crate::trace::Trace;
 use ql_base::{NoMemory, push_bytes, push_number};
-use ql_trace::{Texts, Trace};
 use serde_json::Value as Json;
 use std::alloc::Global;
 

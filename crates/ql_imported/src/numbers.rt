@@ -1,8 +1,9 @@
 // The numbers and names in the printed execution.
 
+use crate::texts::Texts;
+use crate::trace::Trace;
 use ql_base::{MAX_SESSIONS, Names, NoMemory, number_of, push_number};
 use ql_exec::Member;
-use ql_trace::{Texts, Trace};
 use std::alloc::Global;
 use std::cmp::Ordering;
 

@@ -1,9 +1,10 @@
 // The order of what is recorded: each line after those that it refers to, and after the one before it in its session.
 
+use crate::line::Line;
 use crate::links::Link;
 use crate::queue::Queue;
+use crate::trace::Trace;
 use ql_base::NoMemory;
-use ql_trace::{Line, Trace};
 use std::alloc::Global;
 
 /// What comes directly before the kept lines, and after them.

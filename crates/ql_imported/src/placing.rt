@@ -2,14 +2,17 @@
 
 use crate::bits::Bits;
 use crate::filling::fill;
+use crate::line::Line;
 use crate::numbers::Numbers;
 use crate::order::Steps;
+use crate::trace::{Quiet, Trace};
 use crate::views::Places;
 use indexmap::IndexMap;
 use ql_base::{DeclId, IdSet, NoMemory, ObjId, RunId, SessId};
 use ql_eval::TypedFolder;
-use ql_exec::{Answered, Draft, ExecFault, Execution, Folder, Member, Payload, copy_payload, copy_values};
-use ql_trace::{Line, Quiet, Trace};
+use ql_exec::{
+    Answered, Draft, ExecFault, Execution, Folder, Member, Payload, copy_payload, copy_values,
+};
 use ql_typing::Typed;
 use ql_value::copy;
 use std::alloc::Global;
@@ -141,7 +144,9 @@ impl Placed {
         }
         let folded = match found {
             Some(answered) => answered,
-            None => recorded.folder.answer(line.op, &line.args, &self.execution, seen)?,
+            None => recorded
+                .folder
+                .answer(line.op, &line.args, &self.execution, seen)?,
         };
         let answer = match &line.answer {
             Some(answer) => copy(alloc, answer)?,

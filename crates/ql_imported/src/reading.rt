@@ -1,10 +1,6 @@
 // Reading a trace line by line: what the lines so far say, and the rules of one line after those above it.
 
-use crate::form::{Count, Form, Heading, Sight, form_of};
-use crate::ids::Id;
-use crate::json::count_of;
 use crate::line::{Clock, Dot, Line, Refs, View};
-use crate::meaning::{Called, Known, called_of, known_of};
 use crate::rule::TraceRule;
 use crate::texts::Texts;
 use crate::trace::{Quiet, Trace};
@@ -14,6 +10,9 @@ use ql_base::{
 };
 use ql_exec::Member;
 use ql_lines::LineFault;
+use ql_trace::{
+    Called, Count, Form, Heading, Id, Known, Sight, called_of, count_of, form_of, known_of,
+};
 use ql_typing::Typed;
 use serde_json::Value as Json;
 use std::alloc::Global;
@@ -118,7 +117,9 @@ impl Reading {
         let Some(known) = known_of(t, &form.heading) else {
             return Err(LineFault::Breaks(TraceRule::Unknown));
         };
-        let called = called_of(self.alloc, t.op(known.op), &form.values)?;
+        let Some(called) = called_of(self.alloc, t.op(known.op), &form.values)? else {
+            return Err(LineFault::Breaks(TraceRule::Kind));
+        };
         let line = self.line(number, form, known, called)?;
         match self.rule_broken(t, &line) {
             Some(rule) => Err(LineFault::Breaks(rule)),

@@ -1,7 +1,7 @@
-use crate::ids::Id;
 use indexmap::IndexSet;
 use itoa::Buffer;
 use ql_base::NoMemory;
+use ql_trace::Id;
 use std::alloc::Global;
 
 /// Distinct texts, numbered from 0 in the order of their first mention, seen as their list.

@@ -1,6 +1,6 @@
+use crate::trace::Trace;
 use ql_base::NoMemory;
 use ql_exec::Member;
-use ql_trace::Trace;
 use std::alloc::Global;
 
 /// The units of a trace: all kept lines of a transaction, or one line outside any.

@@ -2,8 +2,8 @@
 
 use crate::bits::Bits;
 use crate::links::Link;
+use crate::trace::Trace;
 use ql_base::NoMemory;
-use ql_trace::Trace;
 use std::alloc::Global;
 
 /// The lines of each object, numbered among themselves.

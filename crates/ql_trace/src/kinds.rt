@@ -93,11 +93,7 @@ fn text(alloc: Global, json: &Json) -> Result<Option<TextVal>, NoMemory>
 }
 
 /// The scalar of a base kind that a JSON value spells, if it spells one.
-pub(crate) fn scalar_of(
-    alloc: Global,
-    base: Base,
-    json: &Json,
-) -> Result<Option<Scalar>, NoMemory>
+pub(crate) fn scalar_of(alloc: Global, base: Base, json: &Json) -> Result<Option<Scalar>, NoMemory>
     ensures { IfOk result (λ scalar. scalar ≡ as_scalar base (view json.now)) }
 {
     match base {
