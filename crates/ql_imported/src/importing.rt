@@ -1,5 +1,5 @@
 use crate::kept::kept_lines;
-use crate::links::links_of;
+use crate::links::{Link, links_of};
 use crate::map_text::push_map;
 use crate::numbers::numbers_of;
 use crate::order::{Steps, first_unplaced, recorded_order};
@@ -52,31 +52,45 @@ fn import_trace(alloc: Global, t: &Typed, trace: &Trace) -> Result<Reply, NoMemo
             },
         );
     }
+    let text = execution_text(alloc, t, trace, &links, &kept, &steps, order)?;
+    Ok(Reply {
+        status: Status::Done,
+        text,
+        cause: Cause::Text,
+    })
+}
+
+// The map and the execution of a trace's kept lines, given the order of what is recorded.
+fn execution_text(
+    alloc: Global,
+    t: &Typed,
+    trace: &Trace,
+    links: &[Link],
+    kept: &[bool],
+    steps: &Steps,
+    order: Vec<u32>,
+) -> Result<Vec<u8>, NoMemory> {
     let places = Places::of(alloc, trace)?;
-    let views = recorded_views(alloc, trace, &links, &places, &order)?;
-    let numbers = numbers_of(alloc, trace, &kept)?;
+    let views = recorded_views(alloc, trace, links, &places, &order)?;
+    let numbers = numbers_of(alloc, trace, kept)?;
     let recorded = Recorded {
         alloc,
         folder: TypedFolder::new(alloc, t),
         trace,
-        kept: &kept,
-        steps: &steps,
+        kept,
+        steps,
         places: &places,
         views: &views,
         numbers: &numbers,
     };
     let placed = place_all(&recorded, order)?;
     let mut text = Vec::new(alloc);
-    push_map(alloc, &mut text, trace, &kept, &numbers, &placed.order)?;
+    push_map(alloc, &mut text, trace, kept, &numbers, &placed.order)?;
     push_bytes(&mut text, b"execution\n")?;
     push_bytes(
         &mut text,
         &print_effects(alloc, t, &numbers.names, &placed.execution)?,
     )?;
     push_bytes(&mut text, b"end\n")?;
-    Ok(Reply {
-        status: Status::Done,
-        text,
-        cause: Cause::Text,
-    })
+    Ok(text)
 }

@@ -11,26 +11,28 @@ use std::alloc::Global;
 pub(crate) struct Places {
     /// The number of each line among those on its object.
     pub(crate) of: Vec<usize>,
-    /// How many lines each object has.
-    pub(crate) counts: Vec<usize>,
+    /// The lines of each object, in order.
+    pub(crate) lines: Vec<Vec<u32>>,
 }
 
 impl Places {
     pub(crate) fn of(alloc: Global, trace: &Trace) -> Result<Places, NoMemory> {
         let mut of = Vec::with_capacity(alloc, trace.lines.len())?;
-        let mut counts: Vec<usize> = Vec::new(alloc);
-        counts.resize(trace.objects.len() as usize, 0)?;
-        for line in &trace.lines {
-            let object = line.object.0 as usize;
-            of.push(counts[object])?;
-            counts[object] += 1;
+        let mut lines = Vec::new(alloc);
+        for _ in 0..trace.objects.len() {
+            lines.push(Vec::new(alloc))?;
         }
-        Ok(Places { of, counts })
+        for k in 0..trace.lines.len() {
+            let object = trace.lines[k].object.0 as usize;
+            of.push(lines[object].len())?;
+            lines[object].push(k as u32)?;
+        }
+        Ok(Places { of, lines })
     }
 
     /// No lines of an object.
     pub(crate) fn none(&self, alloc: Global, object: usize) -> Result<Bits, NoMemory> {
-        Bits::below(alloc, self.counts[object])
+        Bits::below(alloc, self.lines[object].len())
     }
 }
 
@@ -46,14 +48,14 @@ pub(crate) fn recorded_views(
     let reached = reached_lines(alloc, links, order)?;
     let mut views = Vec::with_capacity(alloc, links.len())?;
     for k in 0..links.len() {
-        let object = trace.lines[k].object.0;
-        let mut view = places.none(alloc, object as usize)?;
+        let object = trace.lines[k].object.0 as usize;
+        let mut view = places.none(alloc, object)?;
         for line in &links[k].seen {
             view.insert(places.of[*line as usize]);
         }
         if !links[k].deps.is_empty() {
             let from_deps = reached.through(alloc, &links[k].deps)?;
-            add_on(&mut view, trace, places, &from_deps, object);
+            add_on(&mut view, places, &from_deps, object);
         }
         views.push(view)?;
     }
@@ -101,10 +103,10 @@ impl Reached {
 }
 
 // Adds to a view those of some lines that are on its object.
-fn add_on(view: &mut Bits, trace: &Trace, places: &Places, lines: &Bits, object: u32) {
-    for k in 0..trace.lines.len() {
-        if trace.lines[k].object.0 == object && lines.has(k) {
-            view.insert(places.of[k]);
+fn add_on(view: &mut Bits, places: &Places, lines: &Bits, object: usize) {
+    for line in &places.lines[object] {
+        if lines.has(*line as usize) {
+            view.insert(places.of[*line as usize]);
         }
     }
 }
