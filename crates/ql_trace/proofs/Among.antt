@@ -1,5 +1,5 @@
 -- items put among ascending ones
-use Rattle.std.proofs.Common.{◌≡◌, ◌<◌, ◌≤◌, ◌+◌, ℕ, suc, Bool, true, false, not, cond, ◌||◌, List, [], ◌∷◌, ◌++◌, All, length, insert, refl, sym, ap, ◌∙◌, arith, Option, None, Some, one-add}
+use Rattle.std.proofs.Common.{◌≡◌, ◌+◌, suc, Bool, true, false, not, cond, ◌||◌, List, [], ◌∷◌, All, length, insert, refl, ap, ◌∙◌, arith, None, Some, one-add}
 use Rattle.std.specs.Cmp.{IsTotalOrder}
 use Rattle.std.specs.List.{prefix_len}
 use Rattle.std.specs.Ordering.{is_eq, is_lt, ordering_reverse}

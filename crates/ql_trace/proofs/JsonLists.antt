@@ -4,7 +4,7 @@ use Rattle.std.specs.String.{string_bytes}
 use Rattle.std.specs.Prelude.{String}
 use Rattle.std.specs.declared.alloc.Global.{Global}
 use Rattle.serde_json.specs.Data.{Data}
-use Rattle.serde_json.specs.View.{items_of, members_of, members_view, view}
+use Rattle.serde_json.specs.View.{items_of, members_view, view}
 use Rattle.serde_json.specs.declared.value.Value.{Value}
 use Rattle.ql_trace.specs.Json.{items_in, members_in}
 

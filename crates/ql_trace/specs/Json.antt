@@ -1,7 +1,7 @@
 -- Parts of a JSON value.
 use Rattle.std.specs.Prelude.{ℕ, List, [], ◌∷◌, Option, None, Some, option_map, option_and_then, nat_lt, if◌then◌else◌, decimal}
 use Rattle.serde_json.specs.Data.{Data, Items, no_items, item, Members, no_members, member}
-use Rattle.serde_json.specs.Find.{as_array, as_number, as_object, as_str, as_u64}
+use Rattle.serde_json.specs.Find.{as_array, as_number, as_str, as_u64}
 
 abbrev pub items_in : Items → List Data
 items_in no_items = []

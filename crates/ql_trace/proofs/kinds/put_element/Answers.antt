@@ -1,5 +1,4 @@
 use Rattle.std.proofs.Common.{sym, ◌∙◌}
-use Rattle.ql_value.specs.Collections.{Ascends}
 use Rattle.ql_value.specs.Order.{scalar_cmp}
 use Rattle.ql_value.proofs.ScalarOrder.{scalars_total}
 use Rattle.ql_trace.proofs.Among.{ascends-put}
