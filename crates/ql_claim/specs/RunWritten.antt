@@ -6,7 +6,7 @@ use Rattle.ql_running.specs.declared.form.Form.{Form}
 use Rattle.ql_running.specs.declared.form.Form.TheVariants.{Json}
 use Rattle.ql_running.specs.Forms.{IsRunJson, format_of}
 use Rattle.ql_running.specs.Runs.{ReportsRun}
-use Rattle.ql_run_json.specs.JsonRuns.{run_data}
+use Rattle.ql_report.specs.JsonRuns.{run_data}
 use Rattle.serde_json.specs.Read.{read}
 
 -- The arguments are `run NAME OTHER` or `run --json NAME OTHER`, the files hold these bytes, and so much was written before:

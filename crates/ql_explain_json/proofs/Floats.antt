@@ -17,9 +17,9 @@ use Rattle.ql_ground.specs.declared.goal.Goal.{Goal}
 use Rattle.ql_lang.specs.declared.contract.Var.{Var}
 use Rattle.ql_levels.specs.Lists.{LevelLists}
 use Rattle.ql_lang.specs.declared.program.Program.{Program}
-use Rattle.ql_run_json.specs.JsonRuns.{effects_from}
-use Rattle.ql_run_json.specs.Values.{id_data, listed}
-use Rattle.ql_run_json.proofs.Floats.{HasNone, HaveNone, each_none, neither, run_none}
+use Rattle.ql_report.specs.JsonRuns.{effects_from}
+use Rattle.ql_report.specs.JsonValues.{id_data, listed}
+use Rattle.ql_report.proofs.Floats.{HasNone, HaveNone, each_none, neither, run_none}
 use Rattle.ql_why.specs.Why.{object_names, vars_of}
 use Rattle.ql_warnings.specs.declared.warning.Warning.{Warning}
 use Rattle.ql_warnings.specs.declared.warning.Warning.TheVariants as warning

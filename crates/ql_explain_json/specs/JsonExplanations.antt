@@ -22,8 +22,8 @@ use Rattle.ql_ground.specs.declared.goal.Goal.TheVariants.{OpAt, TxnAt}
 use Rattle.ql_lang.specs.Spelling.{relation_word}
 use Rattle.ql_lang.specs.declared.contract.Var.{Var}
 use Rattle.ql_lang.specs.declared.program.Program.{Program}
-use Rattle.ql_run_json.specs.JsonRuns.{effects_from}
-use Rattle.ql_run_json.specs.Values.{id_data, listed, text_data}
+use Rattle.ql_report.specs.JsonRuns.{effects_from}
+use Rattle.ql_report.specs.JsonValues.{id_data, listed, text_data}
 use Rattle.ql_typing.specs.Names.{op_name, txn_name}
 use Rattle.ql_explain_json.specs.declared.counter.Shown.{Shown}
 use Rattle.ql_why.specs.Why.{level_text, object_names, vars_of}

@@ -6,9 +6,9 @@ ghost use Rattle.ql_classify.specs.Finding.{IsFinding, IsUnmet};
 ghost use Rattle.ql_counter.specs.Countermodels.{AreWithin, IsCounterOf, numbers};
 ghost use Rattle.ql_explanation.specs.Explanation.{AreFindings, unmet_of};
 ghost use Rattle.ql_ground.specs.OfPrograms.{IsGoalOf};
-ghost use Rattle.ql_run_json.specs.JsonRuns.{effects_from};
-ghost use Rattle.ql_run_json.specs.Values.{listed, text_data};
-ghost use Rattle.ql_run_text.specs.EffectTexts.{AreNamed};
+ghost use Rattle.ql_report.specs.JsonRuns.{effects_from};
+ghost use Rattle.ql_report.specs.JsonValues.{listed, text_data};
+ghost use Rattle.ql_report.specs.EffectTexts.{AreNamed};
 ghost use Rattle.ql_why.specs.Why.{level_text, object_names};
 ghost use Rattle.ql_why.specs.Why as why;
 ghost use Rattle.ql_explain_json.specs.JsonExplanations.{IsCounterData, IsShown, IsShownOf, at_data, counter_data, fact_data, variable_data, variables_data};
@@ -22,8 +22,8 @@ use ql_explanation::unmet_of;
 use ql_facts::{Fact, reasons};
 use ql_ground::Goal;
 use ql_lang::Var;
-use ql_run_json::effects;
-use ql_run_json::values::{pair, text};
+use ql_report::json_effects;
+use ql_report::json_values::{pair, text};
 use ql_typing::Typed;
 use ql_warnings::{Warning, counter_warnings, formula_of};
 use ql_why::{level_text, object_names, vars_of};
@@ -126,7 +126,7 @@ fn put_execution(
         members,
         alloc,
         "execution",
-        effects(alloc, t, &objects, &c.execution)?,
+        json_effects(alloc, t, &objects, &c.execution)?,
     )?;
     Ok(())
 }

@@ -1,14 +1,14 @@
 // Facts as JSON.
 ghost use Rattle.std.specs.Prelude.{◌≡◌, IfOk, map};
 ghost use Rattle.serde_json.specs.View.{view};
-ghost use Rattle.ql_run_json.specs.Values.{id_data, listed};
+ghost use Rattle.ql_report.specs.JsonValues.{id_data, listed};
 ghost use Rattle.ql_lang.specs.Spelling.{relation_word};
 ghost use Rattle.ql_explain_json.specs.JsonExplanations.{claim_effects, claim_text, fact_data};
 
 use ql_base::NoMemory;
 use ql_facts::{Claim, Fact};
 use ql_lang::RelName;
-use ql_run_json::values::{ids, text};
+use ql_report::json_values::{ids, text};
 use serde_json::{Map, Value as Json, put};
 use std::alloc::Global;
 

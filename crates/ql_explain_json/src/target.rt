@@ -6,7 +6,7 @@ ghost use Rattle.serde_json.specs.View.{members_view, view};
 ghost use Rattle.ql_classify.specs.Finding.{IsFinding};
 ghost use Rattle.ql_explanation.specs.Explanation.{AreFindings, goal_of};
 ghost use Rattle.ql_ground.specs.OfPrograms.{IsGoalOf};
-ghost use Rattle.ql_run_json.specs.Values.{listed, text_data};
+ghost use Rattle.ql_report.specs.JsonValues.{listed, text_data};
 ghost use Rattle.ql_typing.specs.Operations.{all_ops};
 ghost use Rattle.ql_explain_json.specs.JsonExplanations.{IsReasonData, IsTarget, kind_text, level_data, name_text, target_data, use_data};
 
@@ -17,7 +17,7 @@ use ql_base::{NoMemory, OpId};
 use ql_classify::Finding;
 use ql_explanation::{goal_of, uses_of};
 use ql_ground::Goal;
-use ql_run_json::values::text;
+use ql_report::json_values::text;
 use ql_typing::Typed;
 use ql_warnings::Lexed;
 use ql_why::level_text;

@@ -3,12 +3,12 @@ ghost use Rattle.std.specs.Prelude.{◌≡◌, IfOk};
 ghost use Rattle.serde_json.specs.View.{view};
 ghost use Rattle.ql_ground.specs.OfPrograms.{IsGoalOf};
 ghost use Rattle.ql_explain_json.specs.JsonExplanations.{AreWarnings, place_data, place_of, warning_data, warnings_data};
-ghost use Rattle.ql_run_json.specs.Values.{text_data};
+ghost use Rattle.ql_report.specs.JsonValues.{text_data};
 ghost use Rattle.ql_warnings.specs.Texts.{warning_text};
 
 use ql_base::NoMemory;
 use ql_ground::Goal;
-use ql_run_json::values::{pair, text};
+use ql_report::json_values::{pair, text};
 use ql_typing::Typed;
 use ql_warnings::{Lexed, Place, Warning, warning_text, warning_word, warnings as warnings_of};
 use serde_json::{Map, Value as Json, put};

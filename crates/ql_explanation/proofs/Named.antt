@@ -4,7 +4,7 @@ use Rattle.std.proofs.lemmas.Option.{get_or_from_slice_get, slice_get_within}
 use Rattle.ql_exec.specs.declared.effect.Effect.{Effect}
 use Rattle.ql_exec.specs.Effects.{effect_at}
 use Rattle.ql_lang.specs.declared.program.Program.{Program}
-use Rattle.ql_run_text.specs.EffectTexts.{AreNamed, IsNamed}
+use Rattle.ql_report.specs.EffectTexts.{AreNamed, IsNamed}
 use Rattle.ql_typing.specs.Operations.{all_ops}
 
 pub named_at : (p : Program) (x : List Effect) (id : ℕ) (e : Effect) → AreNamed p 7 x → effect_at x id ≡ Some e → IsNamed p 7 e

@@ -1,6 +1,6 @@
 // A small table of an execution's effects.
 ghost use Rattle.std.specs.Prelude.{◌<◌, ◌≤◌, length};
-ghost use Rattle.ql_run_text.specs.EffectTexts.{AreNamed, IsNamed};
+ghost use Rattle.ql_report.specs.EffectTexts.{AreNamed, IsNamed};
 
 use ql_base::{EffId, NoMemory, push_bytes, push_number};
 use ql_counter::{At, Counter};

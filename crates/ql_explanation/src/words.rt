@@ -3,7 +3,7 @@ ghost use Rattle.std.specs.Prelude.{◌≡◌, ◌<◌, ◌++◌, OnOk, length};
 ghost use Rattle.std.specs.List.{All};
 ghost use Rattle.ql_typing.specs.Operations.{all_ops};
 ghost use Rattle.ql_ground.specs.OfPrograms.{IsGoalOf};
-ghost use Rattle.ql_run_text.specs.EffectTexts.{AreNamed};
+ghost use Rattle.ql_report.specs.EffectTexts.{AreNamed};
 ghost use Rattle.ql_explanation.specs.Explanation.{way_out_text, ways_out_text};
 
 use crate::sentences::push_facts;

@@ -2,3 +2,10 @@ pub mod Levels
 pub mod Atoms
 pub mod Report
 pub mod Refusals
+pub mod NumberedLines
+pub mod EffectTexts
+pub mod ReplyTexts
+pub mod RunTexts
+pub mod JsonValues
+pub mod JsonRuns
+pub mod JsonReading

@@ -13,7 +13,7 @@ use ql_base::{EffId, IdSet, NoMemory, push_bytes};
 use ql_exec::Execution;
 use ql_holder::Holder;
 use ql_journal::{MemDisk, Station, StationWhy};
-use ql_run_text::push_ids;
+use ql_report::push_ids;
 use ql_shim::applied_among;
 use ql_store::Store;
 use std::alloc::Global;

@@ -28,8 +28,8 @@ use Rattle.ql_machine.specs.Runs.{IsRun, Leads, replicas_after, step, stop}
 use Rattle.ql_machine.specs.Promised.{asks}
 use Rattle.ql_machine.proofs.Keeping.{nothing-there}
 use Rattle.ql_machine.proofs.Lists.{open-cases, without-cases}
-use Rattle.ql_run_text.specs.EffectTexts.{AreNamed, IsDeclared}
-use Rattle.ql_run_text.specs.ReplyTexts.{AreAnswered, IsAnswered}
+use Rattle.ql_report.specs.EffectTexts.{AreNamed, IsDeclared}
+use Rattle.ql_report.specs.ReplyTexts.{AreAnswered, IsAnswered}
 use Rattle.ql_runs.specs.Keeping.{FitsSchedule}
 use Rattle.ql_schedule.specs.Guarantees.{AreFit, FitsEvent, IsSchedule}
 use Rattle.ql_schedule.specs.declared.schedule.Schedule.{Schedule}

@@ -5,9 +5,9 @@ use Rattle.ql_lang.specs.declared.program.Program.{Program}
 use Rattle.ql_levels.specs.Lists.{LevelLists}
 use Rattle.ql_machine.specs.declared.reply.Reply.{Reply}
 use Rattle.serde_json.specs.Read.{read}
-use Rattle.ql_run_json.specs.JsonRuns.{run_data, run_json}
-use Rattle.ql_run_text.specs.EffectTexts.{HaveValues}
-use Rattle.ql_run_text.specs.RunTexts.{run_text}
+use Rattle.ql_report.specs.JsonRuns.{run_data, run_json}
+use Rattle.ql_report.specs.EffectTexts.{HaveValues}
+use Rattle.ql_report.specs.RunTexts.{run_text}
 use Rattle.ql_running.specs.declared.form.Form.{Form}
 use Rattle.ql_running.specs.declared.form.Form.TheVariants.{Text, Json}
 use Rattle.ql_running.specs.Runs.{Format}

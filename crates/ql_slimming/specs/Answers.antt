@@ -8,7 +8,7 @@ use Rattle.ql_exec.specs.Folding.{seen_in_order}
 use Rattle.ql_lang.specs.declared.program.Program.{Program}
 use Rattle.ql_machine.specs.Sets.{AreThose}
 use Rattle.ql_machine.specs.State.{Machine, replicas}
-use Rattle.ql_run_text.specs.EffectTexts.{object_name}
+use Rattle.ql_report.specs.EffectTexts.{object_name}
 use Rattle.ql_store.specs.Viewing.{IsAppliedOn}
 use Rattle.ql_typing.specs.Operations.{all_ops, op_kinds}
 use Rattle.ql_typing.specs.Names.{op_name}

@@ -23,7 +23,7 @@ use Rattle.ql_effect_lines.specs.declared.setting.Begun.{Begun}
 use Rattle.ql_effect_lines.specs.declared.setting.Setting.{Setting}
 use Rattle.ql_effect_lines.specs.EffectLine.{CallAt, EmitAt, FitsTxn, IsEffectLine, IsSetting, PayloadAt, txn_text}
 use Rattle.ql_effect_lines.specs.Parts.{ValueAt, ValuesAt}
-use Rattle.ql_run_text.specs.EffectTexts.{CarriesValues, effect_fields, member_text, object_name, payload_text, values_text}
+use Rattle.ql_report.specs.EffectTexts.{CarriesValues, effect_fields, member_text, object_name, payload_text, values_text}
 use Rattle.ql_verdicts.specs.Printable.{FitsMember, IsWritable}
 use Rattle.ql_verdicts.proofs.FieldsAgain.{IsOneField, fields_behind, first_field, high_stay, name_bytes, name_field, next_field, number_field, part_field, txn_field, value_part, value_stay, values_part, values_stay}
 use Rattle.ql_verdicts.proofs.LinesAgain.{decimal_stay}

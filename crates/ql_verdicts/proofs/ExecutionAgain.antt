@@ -33,8 +33,8 @@ use Rattle.ql_effect_lines.specs.Effects.{after_effect, after_known, draft_of_li
 use Rattle.ql_execution_files.specs.ExecutionFile.{ClosesExecution, Takes, gives, nothing_read}
 use Rattle.ql_execution_files.specs.declared.format.ExecutionReading.TheVariants.{Ended, Unbegun, WithEffects}
 use Rattle.ql_lines.specs.Outcomes.{Leads}
-use Rattle.ql_run_text.specs.EffectTexts.{IsDeclared, IsNamed, effect_fields, effects_text, execution_text, object_name}
-use Rattle.ql_run_text.specs.NumberedLines.{lines_from}
+use Rattle.ql_report.specs.EffectTexts.{IsDeclared, IsNamed, effect_fields, effects_text, execution_text, object_name}
+use Rattle.ql_report.specs.NumberedLines.{lines_from}
 use Rattle.ql_typing.specs.Names.{op_name}
 use Rattle.ql_verdicts.specs.Printable.{FindsNames, IsPrintable, IsWritable}
 use Rattle.ql_verdicts.specs.Renumbered.{IsRenumbered, renumbered}

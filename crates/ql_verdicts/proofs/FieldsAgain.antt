@@ -22,7 +22,7 @@ use Rattle.ql_value.specs.ValueGrammar.{IsEntry, IsScalar, IsValue, ReadsMore}
 use Rattle.ql_value.proofs.ValueLaws.{printed_again}
 use Rattle.ql_effect_lines.specs.Parts.{FieldAt, ValueAt, ValuesAt, ends_field}
 use Rattle.ql_effect_lines.proofs.Values.{stands}
-use Rattle.ql_run_text.specs.EffectTexts.{values_text}
+use Rattle.ql_report.specs.EffectTexts.{values_text}
 use Rattle.ql_verdicts.proofs.LinesAgain.{IsDigitByte, decimal_bytes, decimal_some, decimal_stay}
 
 -- ---- fields without spaces

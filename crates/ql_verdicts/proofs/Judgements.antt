@@ -17,7 +17,7 @@ use Rattle.ql_machine.specs.declared.reply.Reply.{Reply}
 use Rattle.ql_parse.specs.Parsing.{IsProgramText}
 use Rattle.ql_verdicts.specs.Printable.{IsPrintable}
 use Rattle.ql_verdicts.specs.Renumbered.{IsRenumbered}
-use Rattle.ql_run_text.specs.RunTexts.{run_text}
+use Rattle.ql_report.specs.RunTexts.{run_text}
 use Rattle.ql_running.specs.Forms.{IsRunText}
 use Rattle.ql_running.specs.Runs.{ReportsRun}
 use Rattle.ql_verify.specs.Verdicts.{IsVerdict}

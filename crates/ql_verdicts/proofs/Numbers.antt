@@ -10,7 +10,7 @@ use Rattle.std.proofs.lemmas.Slice.Eq.{bytes_eq-Decides}
 use Rattle.ql_base.specs.Numbering.{has_name, with_name}
 use Rattle.ql_exec.specs.declared.effect.Effect.{Effect}
 use Rattle.ql_effect_lines.specs.Effects.{object_number}
-use Rattle.ql_run_text.specs.EffectTexts.{object_name}
+use Rattle.ql_report.specs.EffectTexts.{object_name}
 
 -- the first occurrence of a name
 abbrev pub first_of : List (List ℕ) → List ℕ → ℕ

@@ -14,7 +14,7 @@ use Rattle.ql_lang.specs.declared.program.Program.{Program}
 use Rattle.ql_lines.specs.Lines.{ahead_from}
 use Rattle.ql_machine.proofs.Runs.{kept}
 use Rattle.ql_verdicts.specs.Printable.{AreObjects, FitsMember, IsPrintable, IsWritable}
-use Rattle.ql_run_text.specs.EffectTexts.{IsDeclared}
+use Rattle.ql_report.specs.EffectTexts.{IsDeclared}
 use Rattle.ql_running.specs.Forms.{IsRunText}
 use Rattle.ql_running.specs.Runs.{ReportsRun}
 use Rattle.ql_schedule.proofs.ObjectNames.{file_names, found_by_name}

@@ -31,10 +31,10 @@ use Rattle.ql_execution_files.specs.declared.format.ExecutionReading.{ExecutionR
 use Rattle.ql_execution_files.specs.declared.format.ExecutionReading.TheVariants.{Ended, Unbegun}
 use Rattle.ql_lines.specs.Outcomes.{Leads}
 use Rattle.ql_report.specs.Levels.{levels_text, op_line, txn_line}
-use Rattle.ql_run_text.specs.EffectTexts.{execution_text}
-use Rattle.ql_run_text.specs.NumberedLines.{lines_from}
-use Rattle.ql_run_text.specs.ReplyTexts.{answer_text, reply_fields, why_number}
-use Rattle.ql_run_text.specs.RunTexts.{numbered_reply_fields, replies_text, run_text}
+use Rattle.ql_report.specs.EffectTexts.{execution_text}
+use Rattle.ql_report.specs.NumberedLines.{lines_from}
+use Rattle.ql_report.specs.ReplyTexts.{answer_text, reply_fields, why_number}
+use Rattle.ql_report.specs.RunTexts.{numbered_reply_fields, replies_text, run_text}
 use Rattle.ql_verdicts.specs.Printable.{IsPrintable, IsWritable}
 use Rattle.ql_verdicts.specs.Renumbered.{IsRenumbered}
 use Rattle.ql_verdicts.proofs.ExecutionAgain.{at-each, execution_leads, number, same_execution}

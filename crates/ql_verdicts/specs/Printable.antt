@@ -11,7 +11,7 @@ use Rattle.ql_exec.specs.declared.effect.Member.{Member}
 use Rattle.ql_exec.specs.declared.effect.Member.TheVariants.{Alone, Inside}
 use Rattle.ql_exec.specs.Effects.{effect_at}
 use Rattle.ql_exec.specs.Execution.{IsExecution}
-use Rattle.ql_run_text.specs.EffectTexts.{AreNamed, HasValues, object_name}
+use Rattle.ql_report.specs.EffectTexts.{AreNamed, HasValues, object_name}
 use Rattle.ql_typing.specs.Names.{op_name, txn_name}
 
 -- operations and declared transactions have names, and are found by them

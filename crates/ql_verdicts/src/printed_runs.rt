@@ -5,7 +5,7 @@ ghost use Rattle.ql_lang.specs.declared.program.Program.{Program};
 ghost use Rattle.ql_levels.specs.Lists.{LevelLists};
 ghost use Rattle.ql_lines.specs.Lines.{ahead_from};
 ghost use Rattle.ql_machine.specs.declared.reply.Reply.{Reply};
-ghost use Rattle.ql_run_text.specs.RunTexts.{run_text};
+ghost use Rattle.ql_report.specs.RunTexts.{run_text};
 ghost use Rattle.ql_verdicts.specs.Printable.{IsPrintable};
 ghost use Rattle.ql_verdicts.specs.Renumbered.{IsRenumbered};
 

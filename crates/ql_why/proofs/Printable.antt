@@ -12,7 +12,7 @@ use Rattle.ql_ground.specs.declared.goal.Goal.TheVariants.{OpAt, TxnAt}
 use Rattle.ql_ground.proofs.Typing.{count_types}
 use Rattle.ql_implication.specs.Executions.{FitsProgram}
 use Rattle.ql_lang.specs.declared.program.Program.{Program}
-use Rattle.ql_run_text.specs.EffectTexts.{AreNamed, IsDeclared}
+use Rattle.ql_report.specs.EffectTexts.{AreNamed, IsDeclared}
 use Rattle.ql_typing.specs.Operations.{op_kinds}
 
 module _ (p : Program) where

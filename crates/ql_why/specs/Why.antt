@@ -22,7 +22,7 @@ use Rattle.ql_lang.specs.declared.program.Program.{Program}
 use Rattle.ql_levels.specs.Lists.{LevelLists}
 use Rattle.ql_levels.specs.Words.{txn_word_of, word_of}
 use Rattle.ql_report.specs.Refusals.{op_vars, txn_vars}
-use Rattle.ql_run_text.specs.EffectTexts.{execution_text}
+use Rattle.ql_report.specs.EffectTexts.{execution_text}
 use Rattle.ql_typing.specs.Names.{op_name, txn_name}
 
 -- ---- the text of a countermodel

@@ -2,7 +2,7 @@
 ghost use Rattle.std.specs.Prelude.{◌≡◌, ◌++◌, OnOk, OnErr};
 ghost use Rattle.ql_counter.specs.Countermodels.{AreWithin, IsCounterOf, IsSatisfiedBy};
 ghost use Rattle.ql_ground.specs.OfPrograms.{IsGoalOf};
-ghost use Rattle.ql_run_text.specs.EffectTexts.{AreNamed, execution_text};
+ghost use Rattle.ql_report.specs.EffectTexts.{AreNamed, execution_text};
 ghost use Rattle.ql_why.specs.Why.{Appended, IsCounterText, at_text, counter_text, heading_text, level_text, object_names, vars_of};
 
 use crate::objects::object_names;
@@ -14,7 +14,7 @@ use ql_ground::Goal;
 use ql_judging::push_places;
 use ql_lang::Var;
 use ql_levels::{level_word, txn_word};
-use ql_run_text::print_effects;
+use ql_report::print_effects;
 use ql_typing::Typed;
 use std::alloc::Global;
 

@@ -1,8 +1,8 @@
 use Rattle.std.proofs.Common.{List, ℕ, length, sym, subst}
 use Rattle.std.proofs.lemmas.Result.{err_from_is_err_and, IfOk-weaker}
 use Rattle.ql_exec.specs.declared.effect.Effect.{Effect}
-use Rattle.ql_run_text.specs.EffectTexts.{AreNamed}
-use Rattle.ql_run_text.specs.ReplyTexts.{AreAnswered}
+use Rattle.ql_report.specs.EffectTexts.{AreNamed}
+use Rattle.ql_report.specs.ReplyTexts.{AreAnswered}
 use Rattle.ql_running.specs.Forms.{format_of}
 use Rattle.ql_running.proofs.running.text_of.Goals as goal
 

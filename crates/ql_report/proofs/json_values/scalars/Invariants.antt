@@ -1,0 +1,7 @@
+use Rattle.std.proofs.Common.{◌≡◌, map, take}
+use Rattle.serde_json.specs.View.{view}
+use Rattle.ql_report.specs.JsonValues.{scalar_data}
+use Rattle.ql_report.proofs.json_values.scalars.Given as goal
+
+abbrev pub invariant-loop-k : goal.invariant-loop-k
+invariant-loop-k l = map view l.list.items ≡ map scalar_data (take l.k l.scalars)

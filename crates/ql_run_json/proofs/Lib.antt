@@ -1,6 +1,0 @@
-pub mod Lists
-pub mod Floats
-pub mod Members
-pub mod Depths
-pub mod LineEnd
-pub mod Texts

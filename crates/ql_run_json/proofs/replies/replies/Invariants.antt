@@ -1,9 +1,0 @@
-use Rattle.std.proofs.Common.{◌≡◌, map, take}
-use Rattle.ql_lines.specs.Texts.{joined}
-use Rattle.ql_run_text.specs.ReplyTexts.{reply_fields}
-use Rattle.serde_json.specs.View.{view}
-use Rattle.ql_run_json.specs.Values.{text_data}
-use Rattle.ql_run_json.proofs.replies.replies.Given as goal
-
-abbrev pub invariant-loop-k : goal.invariant-loop-k
-invariant-loop-k l = map view l.list.items ≡ map (λ r. text_data (joined (reply_fields l.x r))) (take l.k l.replies)

@@ -1,7 +1,0 @@
-use Rattle.std.proofs.Common.{◌≡◌, map, take}
-use Rattle.serde_json.specs.View.{view}
-use Rattle.ql_run_json.specs.Values.{id_data}
-use Rattle.ql_run_json.proofs.values.ids.Given as goal
-
-abbrev pub invariant-loop-k : goal.invariant-loop-k
-invariant-loop-k l = map view l.list.items ≡ map id_data (take l.k l.ids)

@@ -1,4 +1,0 @@
-pub mod NumberedLines
-pub mod EffectTexts
-pub mod ReplyTexts
-pub mod RunTexts
