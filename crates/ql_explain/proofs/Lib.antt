@@ -1,1 +1,5 @@
+pub mod Members
+pub mod Floats
+pub mod Targets
+pub mod ShownLaws
 mod Report

@@ -1,2 +1,3 @@
+pub mod JsonExplanations
 pub mod Words
 pub mod Outcomes

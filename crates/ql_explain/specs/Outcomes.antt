@@ -1,7 +1,7 @@
 -- What is written: for the arguments, what the shelf holds and counts, and a status.
 use Rattle.std.specs.Prelude.{◌≡◌, ◌⊎◌, ℕ, ◌<◌, List, ◌++◌, length, Option, Some, None, IfSome, codes}
 use Rattle.ql_baseline.specs.Comparison.{BaselineSays}
-use Rattle.ql_explain_json.specs.JsonExplanations.{ExplainJsonSays}
+use Rattle.ql_explain.specs.JsonExplanations.{ExplainJsonSays}
 use Rattle.ql_explanation.specs.Explanation.{ExplainSays}
 use Rattle.ql_ports.specs.Faults.{Rose}
 use Rattle.ql_explain.specs.Words.{Call, Explained, Compared, asked}

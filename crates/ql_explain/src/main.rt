@@ -1,9 +1,18 @@
-// The program `explain`: passes the command line, the system's files and standard output to its top call. It prints nothing
-// on standard output itself, and its exit status is the top call's. Notes on the answer go to standard error, after it.
-// The one contract: for all arguments and all files one text is written that the outcome allows.
+// The program `explain`, with the JSON form of what it says: passes the command line, the system's files and standard
+// output to its top call. It prints nothing on standard output itself, and its exit status is the top call's. Notes on
+// the answer go to standard error, after it.
+// The one contract: for all arguments and all files one text is written that the outcome allows; a text in JSON is that
+// of the stated value, in which each level is its target's least, each execution is a countermodel of the target at the
+// level beside it, and each fact is true of that execution.
 #![tactic(auto)]
 
 mod help;
+mod json_counter;
+mod json_explanation;
+mod json_facts;
+mod json_names;
+mod json_target;
+mod json_warnings;
 mod outcome;
 mod program;
 mod request;

@@ -5,10 +5,10 @@ ghost use Rattle.ql_reply.specs.Arguments.{word_texts};
 ghost use Rattle.ql_reply.specs.Unread.{IsUnread};
 
 use crate::help::HELP;
+use crate::json_explanation::explain_json;
 use crate::request::{Form, Pair, Request, parse_words};
 use ql_base::{MAX_SOURCE_BYTES, NoMemory};
 use ql_baseline::compare;
-use ql_explain_json::explain_json;
 use ql_explanation::explain;
 use ql_ports::{ReadWhy, Shelf, read_whole};
 use ql_reply::{Answered, Cause, Reply, Status, unread};

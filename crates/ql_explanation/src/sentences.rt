@@ -7,9 +7,9 @@ ghost use Rattle.ql_report.specs.EffectTexts.{AreNamed};
 use ql_base::{EffId, NoMemory, push_bytes, push_number};
 use ql_counter::{At, Counter};
 use ql_exec::Effect;
-use ql_facts::{Claim, Fact};
 use ql_lang::RelName;
 use ql_typing::Typed;
+use ql_warnings::{Claim, Fact};
 
 // A sentence on two effects: who, what, and whom.
 #[derive(Clone, Copy)]

@@ -10,12 +10,11 @@ use crate::sentences::push_facts;
 use crate::table::table;
 use ql_base::{NoMemory, OpId, push_bytes, push_number};
 use ql_counter::{At, Counter};
-use ql_facts::reasons;
 use ql_ground::Goal;
 use ql_judging::push_places;
 use ql_lang::Name;
 use ql_typing::Typed;
-use ql_warnings::formula_of;
+use ql_warnings::{formula_of, reasons};
 use ql_why::{level_text, vars_of};
 use std::alloc::Global;
 

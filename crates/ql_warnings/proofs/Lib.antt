@@ -1,3 +1,4 @@
+mod Keeping
 mod Names
 mod Scenes
 mod Given

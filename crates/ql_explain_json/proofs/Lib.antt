@@ -1,4 +1,0 @@
-pub mod Members
-pub mod Floats
-pub mod Targets
-pub mod ShownLaws

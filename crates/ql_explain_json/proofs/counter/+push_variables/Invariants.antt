@@ -1,5 +1,0 @@
-use Rattle.std.proofs.Common.{length}
-use Rattle.ql_explain_json.proofs.counter.+push_variables.Given as goal
-
-abbrev pub decreases-push_variables : goal.decreases-push_variables
-decreases-push_variables l = length l.vars.now

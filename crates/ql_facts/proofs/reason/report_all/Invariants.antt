@@ -1,5 +1,0 @@
-use Rattle.ql_facts.specs.Facts.{KeepsTrue}
-use Rattle.ql_facts.proofs.reason.report_all.Given as goal
-
-abbrev pub invariant-loop-fact : goal.invariant-loop-fact
-invariant-loop-fact l = KeepsTrue l.scene.execution.now l.scene.at l.initial.facts.items l.facts.items
