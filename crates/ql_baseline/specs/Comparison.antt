@@ -8,7 +8,7 @@ use Rattle.ql_reply.specs.Lines.{fault_line}
 use Rattle.ql_reply.specs.declared.status.Status.{Status}
 use Rattle.ql_reply.specs.declared.status.Status.TheVariants.{Done, No, Bad}
 use Rattle.ql_commands.specs.Sources.{BadSourceSays, IsSource, IsSourceOf}
-use Rattle.ql_explanation.specs.Explanation.{AreFindings}
+use Rattle.ql_warnings.specs.Warnings.{AreFindings}
 use Rattle.ql_ground.specs.declared.goal.Goal.{Goal}
 use Rattle.ql_ground.specs.declared.goal.Goal.TheVariants.{OpAt, TxnAt}
 use Rattle.ql_lang.specs.declared.program.Program.{Program}
@@ -40,9 +40,9 @@ txn_rank Rr = 2
 -- ---- the stored levels, of which the first of a target counts
 
 -- the level that a stored line has for the operation with this name, if it is about that one
-abbrev pub op_in : Stored → List ℕ → Option (Option Level)
-op_in (Op other level) name = if bytes_eq other name then Some level else None
-op_in (Txn other level) name = None
+abbrev pub stored_op_in : Stored → List ℕ → Option (Option Level)
+stored_op_in (Op other level) name = if bytes_eq other name then Some level else None
+stored_op_in (Txn other level) name = None
 
 abbrev pub txn_in : Stored → List ℕ → Option (Option TxnLevel)
 txn_in (Op other level) name = None
@@ -50,7 +50,7 @@ txn_in (Txn other level) name = if bytes_eq other name then Some level else None
 
 unfoldable pub stored_op : List Stored → List ℕ → Option Level
 stored_op [] name = None
-stored_op (s ∷ rest) name = unwrap_or (op_in s name) (stored_op rest name)
+stored_op (s ∷ rest) name = unwrap_or (stored_op_in s name) (stored_op rest name)
 
 unfoldable pub stored_txn : List Stored → List ℕ → Option TxnLevel
 stored_txn [] name = None

@@ -8,9 +8,9 @@ use Rattle.ql_lines.specs.Lines.{begins_with}
 use Rattle.ql_baseline.specs.declared.stored.Stored.{Stored}
 use Rattle.ql_baseline.specs.declared.stored.Stored.TheVariants.{Op, Txn}
 
-abbrev pub name_in : Stored → List ℕ
-name_in (Op name level) = name
-name_in (Txn name level) = name
+abbrev pub stored_name : Stored → List ℕ
+stored_name (Op name level) = name
+stored_name (Txn name level) = name
 
 -- op F LEVEL, or none op F; and the same of transactions
 abbrev pub stored_fields : Stored → Fields
@@ -20,8 +20,8 @@ stored_fields (Txn name (Some level)) = codes "txn" ∷ name ∷ txn_word_of lev
 stored_fields (Txn name None) = codes "none" ∷ codes "txn" ∷ name ∷ []
 
 -- the line says this
-abbrev pub IsStored : List ℕ → Stored → Type 0
-IsStored text s = IsName (name_in s) × (fields_of text ≡ stored_fields s)
+abbrev pub IsStoredLine : List ℕ → Stored → Type 0
+IsStoredLine text s = IsName (stored_name s) × (fields_of text ≡ stored_fields s)
 
 -- the first fields of lines that say nothing about levels: those of a refusal, and of the execution of a countermodel
 abbrev pub is_passed_word : List ℕ → Bool

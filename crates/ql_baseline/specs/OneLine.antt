@@ -8,7 +8,7 @@ use Rattle.ql_levels.specs.declared.level.TxnLevel.TheVariants.{Rc, Mav, Rr}
 use Rattle.ql_levels.specs.Words.{txn_word_of, word_of}
 use Rattle.ql_lines.specs.Fields.{Fields}
 use Rattle.ql_lines.specs.declared.fault.Broken.{Broken}
-use Rattle.ql_baseline.specs.Files.{GivesLine, closes}
+use Rattle.ql_baseline.specs.Files.{GivesStored, closes_stored}
 use Rattle.ql_baseline.specs.Lines.{is_passed, stored_fields}
 use Rattle.ql_baseline.specs.declared.stored.BaselineRule.{BaselineRule}
 use Rattle.ql_baseline.specs.declared.stored.BaselineRule.TheVariants.{Unexpected}
@@ -64,7 +64,7 @@ same_stored (Txn n None) (Op m None) e = absurd (omega (arith, ap (λ (f : Field
 same_stored (Txn n None) (Txn m (Some k)) e = absurd (omega (arith, ap (λ (f : Fields). length (get_or f 0 [])) e))
 
 module _ (before : List Stored) (text : List ℕ) where
-  pub gives_one : (x y : Result (List Stored) BaselineRule) → GivesLine before text x → GivesLine before text y → x ≡ y
+  pub gives_one : (x y : Result (List Stored) BaselineRule) → GivesStored before text x → GivesStored before text y → x ≡ y
   gives_one (Ok a) (Ok b) (inl p) (inl q) = ap Ok (p.1 ∙ sym q.1)
   gives_one (Ok a) (Ok b) (inl p) (inr q) = absurd (false≢true (sym q.0 ∙ p.0))
   gives_one (Ok a) (Ok b) (inr p) (inl q) = absurd (false≢true (sym p.0 ∙ q.0))
@@ -76,17 +76,17 @@ module _ (before : List Stored) (text : List ℕ) where
   gives_one (Err r) (Ok b) p (inr (ours, s, is, e)) = absurd (p.1 s is)
   gives_one (Err Unexpected) (Err Unexpected) p q = refl
 
-  by_cases : (passed : Bool) → is_passed text ≡ passed → ((x : Result (List Stored) BaselineRule) → GivesLine before text x → ⊥) → ⊥
+  by_cases : (passed : Bool) → is_passed text ≡ passed → ((x : Result (List Stored) BaselineRule) → GivesStored before text x → ⊥) → ⊥
   by_cases true is none = none (Ok before) (inl (is, refl))
   by_cases false is none = none (Err Unexpected) (is, λ s stored. none (Ok (before ++ s ∷ [])) (inr (is, s, stored, refl)))
 
-  pub gives_some : ((x : Result (List Stored) BaselineRule) → GivesLine before text x → ⊥) → ⊥
+  pub gives_some : ((x : Result (List Stored) BaselineRule) → GivesStored before text x → ⊥) → ⊥
   gives_some none = by_cases (is_passed text) refl none
 
-pub closes_one : (before : List Stored) (end : ℕ) (x y : Result (List Stored) (Broken BaselineRule)) → closes before end x → closes before end y → x ≡ y
+pub closes_one : (before : List Stored) (end : ℕ) (x y : Result (List Stored) (Broken BaselineRule)) → closes_stored before end x → closes_stored before end y → x ≡ y
 closes_one [] end x y p q = p ∙ sym q
 closes_one (s ∷ stored) end x y p q = p ∙ sym q
 
-pub closes_some : (before : List Stored) (end : ℕ) → ((x : Result (List Stored) (Broken BaselineRule)) → closes before end x → ⊥) → ⊥
+pub closes_some : (before : List Stored) (end : ℕ) → ((x : Result (List Stored) (Broken BaselineRule)) → closes_stored before end x → ⊥) → ⊥
 closes_some [] end none = none _ refl
 closes_some (s ∷ stored) end none = none _ refl

@@ -1,7 +1,7 @@
 ghost use Rattle.std.specs.Prelude.{◌≡◌, ◌<◌, ◌++◌, ◌^◌, ℕ, IfOk, OnOk, length, map};
 ghost use Rattle.std.specs.List.{concat};
 ghost use Rattle.ql_classify.specs.Finding.{IsFinding};
-ghost use Rattle.ql_explanation.specs.Explanation.{AreFindings};
+ghost use Rattle.ql_warnings.specs.Warnings.{AreFindings};
 ghost use Rattle.ql_baseline.specs.Comparison.{BaselineSays, IsComparison, rise_of};
 
 use crate::format::Format;

@@ -1,5 +1,5 @@
 ghost use Rattle.std.specs.Prelude.{[]};
-ghost use Rattle.ql_baseline.specs.Files.{GivesLine, closes};
+ghost use Rattle.ql_baseline.specs.Files.{GivesStored, closes_stored};
 ghost use Rattle.ql_baseline.specs.OneLine.{closes_one, closes_some, gives_one, gives_some};
 
 use crate::lines::{is_passed, stored_of};
@@ -26,9 +26,9 @@ impl LineFormat for Format {
 
     ghost allows = { λ f bytes. Unit {0} };
 
-    ghost gives = { λ f stored l x. GivesLine stored l.text x };
+    ghost gives = { λ f stored l x. GivesStored stored l.text x };
 
-    ghost closes = { λ f stored end x. closes stored end x };
+    ghost closes = { λ f stored end x. closes_stored stored end x };
 
     fn start(&self) -> StoredList {
         StoredList::new(self.alloc)

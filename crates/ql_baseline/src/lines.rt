@@ -5,7 +5,7 @@ ghost use Rattle.ql_levels.specs.declared.level.Level.{Level};
 ghost use Rattle.ql_levels.specs.declared.level.TxnLevel.{TxnLevel};
 ghost use Rattle.ql_levels.specs.Words.{txn_word_of, word_of};
 ghost use Rattle.ql_lines.specs.Fields.{fields_of};
-ghost use Rattle.ql_baseline.specs.Lines.{IsStored, is_passed, is_passed_word};
+ghost use Rattle.ql_baseline.specs.Lines.{IsStoredLine, is_passed, is_passed_word};
 ghost use Rattle.ql_baseline.specs.declared.stored.Stored.{Stored};
 
 use crate::stored::Stored;
@@ -15,8 +15,8 @@ use ql_lines::{after_name, after_word, first_field};
 
 /// What a line says of a target, if it is about one.
 pub(crate) fn stored_of(text: &[u8]) -> Option<Stored>
-    ensures { MatchOption result ((s : Stored) → IsStored text.now s → ⊥)
-        (λ s. IsStored text.now s) }
+    ensures { MatchOption result ((s : Stored) → IsStoredLine text.now s → ⊥)
+        (λ s. IsStoredLine text.now s) }
 {
     if let Some((name, level)) = op_line(text) {
         return Some(Stored::Op(name, Some(level)));

@@ -1,7 +1,7 @@
 // The lines of targets whose levels rose.
 ghost use Rattle.std.specs.Prelude.{◌≡◌, ◌++◌, OnOk};
 ghost use Rattle.ql_ground.specs.OfPrograms.{IsGoalOf};
-ghost use Rattle.ql_baseline.specs.Comparison.{level_rank, lost_text, op_in, op_rise, rise_at, rise_text, stored_op, stored_txn, txn_in, txn_rank, txn_rise, was_text};
+ghost use Rattle.ql_baseline.specs.Comparison.{level_rank, lost_text, stored_op_in, op_rise, rise_at, rise_text, stored_op, stored_txn, txn_in, txn_rank, txn_rise, was_text};
 
 use crate::stored::Stored;
 use ql_base::{NoMemory, push_bytes};
@@ -126,7 +126,7 @@ fn stored_op(stored: &[Stored], name: &[u8]) -> Option<Level>
 }
 
 fn op_in(stored: &Stored, name: &[u8]) -> Option<Option<Level>>
-    ensures { result ≡ op_in stored.now name.now }
+    ensures { result ≡ stored_op_in stored.now name.now }
 {
     match stored {
         Stored::Op(word, level) => {

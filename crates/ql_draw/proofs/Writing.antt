@@ -8,8 +8,8 @@ use Rattle.ql_picture.specs.Dots.{AreDotsOf}
 use Rattle.ql_picture.specs.declared.grid.Grid.{Grid}
 use Rattle.ql_picture.specs.Svg.{svg_text}
 use Rattle.ql_picture.specs.declared.picture.Picture.{Picture}
-use Rattle.ql_draw.specs.Outcomes.{IsDrawn, SaysOf}
-use Rattle.ql_draw.specs.Words.{Asked}
+use Rattle.ql_draw.specs.Outcomes.{IsDrawn, SaysPictureOf}
+use Rattle.ql_draw.specs.Words.{PictureAsked}
 use Rattle.ql_draw.specs.declared.sheet.TheConstants.{SHEET}
 use Rattle.ql_reply.proofs.Replies.{no_usage}
 use Rattle.ql_reply.specs.declared.status.Status.TheVariants.{WriteFault}
@@ -20,6 +20,6 @@ is_drawn history grid picture (Ok text) svg dots = record { history = history; g
 is_drawn history grid picture (Err e) svg dots = tt
 
 -- nothing is to be written with the status of a write fault
-pub never : (held : List ℕ → Option (List ℕ)) (before after : List ℕ → ℕ) (a : Option Asked) (text : List ℕ) → SaysOf held before after a WriteFault text → ⊥
+pub never : (held : List ℕ → Option (List ℕ)) (before after : List ℕ → ℕ) (a : Option PictureAsked) (text : List ℕ) → SaysPictureOf held before after a WriteFault text → ⊥
 never held before after None text says = no_usage says.0
 never held before after (Some a) text says = says

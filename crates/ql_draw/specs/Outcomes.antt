@@ -8,7 +8,7 @@ use Rattle.ql_picture.specs.declared.grid.Grid.{Grid}
 use Rattle.ql_ports.specs.Faults.{Rose}
 use Rattle.ql_picture.specs.Svg.{svg_text}
 use Rattle.ql_picture.specs.declared.picture.Picture.{Picture}
-use Rattle.ql_draw.specs.Words.{Asked, asked}
+use Rattle.ql_draw.specs.Words.{PictureAsked, picture_asked}
 use Rattle.ql_draw.specs.declared.help.TheConstants.{HELP}
 use Rattle.ql_draw.specs.declared.sheet.TheConstants.{SHEET}
 use Rattle.ql_draw.specs.declared.drawing.Fault.{Fault}
@@ -39,42 +39,42 @@ IsFaultText fault.OtherRun text = text ≡ codes "bad schedule: it is another ru
 IsFaultText fault.NoMemory text = ⊥
 
 -- what is written once the files are read
-abbrev pub IsAnswer : Status → List ℕ → Type 0
-IsAnswer Done text = IsDrawn text
-IsAnswer Bad text = (fault : Fault) × IsFaultText fault text
-IsAnswer _ text = ⊥
+abbrev pub IsPictureAnswer : Status → List ℕ → Type 0
+IsPictureAnswer Done text = IsDrawn text
+IsPictureAnswer Bad text = (fault : Fault) × IsFaultText fault text
+IsPictureAnswer _ text = ⊥
 
 -- this is the name of a file of the request
-abbrev pub IsOf : Asked → List ℕ → Type 0
-IsOf a name = (name ≡ a.file) ⊎ (a.schedule ≡ Some name)
+abbrev pub IsPictureFile : PictureAsked → List ℕ → Type 0
+IsPictureFile a name = (name ≡ a.file) ⊎ (a.schedule ≡ Some name)
 
 -- a file that couldn't be read
-abbrev pub Fails : (List ℕ → ℕ) → (List ℕ → ℕ) → Asked → List ℕ → Type 0
-Fails before after a text = (name : List ℕ) × IsOf a name × Rose (before name) (after name) × (text ≡ codes "read fault " ++ name ++ codes "\n")
+abbrev pub PictureUnread : (List ℕ → ℕ) → (List ℕ → ℕ) → PictureAsked → List ℕ → Type 0
+PictureUnread before after a text = (name : List ℕ) × IsPictureFile a name × Rose (before name) (after name) × (text ≡ codes "read fault " ++ name ++ codes "\n")
 
 -- a file with more bytes than its limit, 67,108,864 for a run's and 1,048,576 for a schedule's
-abbrev pub limit_of : Asked → List ℕ → ℕ → Type 0
+abbrev pub limit_of : PictureAsked → List ℕ → ℕ → Type 0
 limit_of a name limit = ((name ≡ a.file) × (limit ≡ 67108864)) ⊎ ((a.schedule ≡ Some name) × (limit ≡ 1048576))
 
-abbrev pub IsOver : (List ℕ → Option (List ℕ)) → Asked → List ℕ → Type 0
-IsOver held a text =
+abbrev pub PictureTooLarge : (List ℕ → Option (List ℕ)) → PictureAsked → List ℕ → Type 0
+PictureTooLarge held a text =
     (name : List ℕ) × (limit : ℕ) × limit_of a name limit × IfSome (held name) (λ bytes. limit < length bytes) × (text ≡ codes "too large " ++ name ++ codes "\n")
 
 -- what is written for a request
-abbrev pub Reports : (List ℕ → Option (List ℕ)) → (List ℕ → ℕ) → (List ℕ → ℕ) → Asked → Status → List ℕ → Type 0
-Reports held before after a Done text = IsDrawn text
-Reports held before after a No text = ⊥
-Reports held before after a Bad text = (fault : Fault) × IsFaultText fault text
-Reports held before after a ReadFault text = Fails before after a text
-Reports held before after a TooLarge text = IsOver held a text
-Reports held before after a WriteFault text = ⊥
-Reports held before after a Usage text = ⊥
+abbrev pub ReportsPicture : (List ℕ → Option (List ℕ)) → (List ℕ → ℕ) → (List ℕ → ℕ) → PictureAsked → Status → List ℕ → Type 0
+ReportsPicture held before after a Done text = IsDrawn text
+ReportsPicture held before after a No text = ⊥
+ReportsPicture held before after a Bad text = (fault : Fault) × IsFaultText fault text
+ReportsPicture held before after a ReadFault text = PictureUnread before after a text
+ReportsPicture held before after a TooLarge text = PictureTooLarge held a text
+ReportsPicture held before after a WriteFault text = ⊥
+ReportsPicture held before after a Usage text = ⊥
 
 -- The text to be written with a status. `held` is what the shelf holds under each name, where it reports it, and the
 -- counts are those of its faults at each name, before and after the call.
-abbrev pub SaysOf : (List ℕ → Option (List ℕ)) → (List ℕ → ℕ) → (List ℕ → ℕ) → Option Asked → Status → List ℕ → Type 0
-SaysOf held before after None status text = (status ≡ Usage) × (text ≡ HELP.now)
-SaysOf held before after (Some a) status text = Reports held before after a status text
+abbrev pub SaysPictureOf : (List ℕ → Option (List ℕ)) → (List ℕ → ℕ) → (List ℕ → ℕ) → Option PictureAsked → Status → List ℕ → Type 0
+SaysPictureOf held before after None status text = (status ≡ Usage) × (text ≡ HELP.now)
+SaysPictureOf held before after (Some a) status text = ReportsPicture held before after a status text
 
-abbrev pub Says : List (List ℕ) → (List ℕ → Option (List ℕ)) → (List ℕ → ℕ) → (List ℕ → ℕ) → Status → List ℕ → Type 0
-Says words held before after status text = SaysOf held before after (asked words) status text
+abbrev pub SaysPicture : List (List ℕ) → (List ℕ → Option (List ℕ)) → (List ℕ → ℕ) → (List ℕ → ℕ) → Status → List ℕ → Type 0
+SaysPicture words held before after status text = SaysPictureOf held before after (picture_asked words) status text

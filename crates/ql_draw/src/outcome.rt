@@ -1,6 +1,6 @@
 ghost use Rattle.std.specs.Prelude.{◌≡◌, ◌≤◌, ℕ, List, Some, IfOk};
-ghost use Rattle.ql_draw.specs.Outcomes.{IsAnswer, Says, Reports};
-ghost use Rattle.ql_draw.specs.Words.{asked_of};
+ghost use Rattle.ql_draw.specs.Outcomes.{IsPictureAnswer, SaysPicture, ReportsPicture};
+ghost use Rattle.ql_draw.specs.Words.{picture_asked_of};
 ghost use Rattle.ql_reply.specs.Arguments.{word_texts};
 
 use crate::drawing::{Drawing, drawing_text, fault_text};
@@ -24,7 +24,7 @@ pub fn outcome<S: Shelf>(
     shelf: &mut S,
 ) -> Result<Reply, NoMemory>
     ensures says { IfOk result
-        (λ reply. Says (word_texts words.now) (S.held shelf.old) (S.faults shelf.old)
+        (λ reply. SaysPicture (word_texts words.now) (S.held shelf.old) (S.faults shelf.old)
         (S.faults shelf.new) reply.status reply.text.items) }
     ensures same_contents { (other : List ℕ) → S.held shelf.new other ≡ S.held shelf.old other }
     ensures counts_stay { (other : List ℕ) → S.faults shelf.old other ≤ S.faults shelf.new other }
@@ -41,8 +41,8 @@ pub fn outcome<S: Shelf>(
 
 fn of_request<S: Shelf>(alloc: Global, request: Request, shelf: &mut S) -> Result<Reply, NoMemory>
     ensures says { IfOk result
-        (λ reply. Reports (S.held shelf.old) (S.faults shelf.old) (S.faults shelf.new)
-        (asked_of request.entry) reply.status reply.text.items) }
+        (λ reply. ReportsPicture (S.held shelf.old) (S.faults shelf.old) (S.faults shelf.new)
+        (picture_asked_of request.entry) reply.status reply.text.items) }
     ensures same_contents { (other : List ℕ) → S.held shelf.new other ≡ S.held shelf.old other }
     ensures counts_stay { (other : List ℕ) → S.faults shelf.old other ≤ S.faults shelf.new other }
 {
@@ -60,8 +60,8 @@ fn of_run<S: Shelf>(
     shelf: &mut S,
 ) -> Result<Reply, NoMemory>
     ensures says { IfOk result
-        (λ reply. Reports (S.held shelf.old) (S.faults shelf.old) (S.faults shelf.new)
-        (asked_of request.entry) reply.status reply.text.items) }
+        (λ reply. ReportsPicture (S.held shelf.old) (S.faults shelf.old) (S.faults shelf.new)
+        (picture_asked_of request.entry) reply.status reply.text.items) }
     ensures same_contents { (other : List ℕ) → S.held shelf.new other ≡ S.held shelf.old other }
     ensures counts_stay { (other : List ℕ) → S.faults shelf.old other ≤ S.faults shelf.new other }
 {
@@ -79,10 +79,10 @@ fn with_schedule<S: Shelf>(
     name: &str,
     shelf: &mut S,
 ) -> Result<Reply, NoMemory>
-    requires { (asked_of request).schedule ≡ Some name.now }
+    requires { (picture_asked_of request).schedule ≡ Some name.now }
     ensures says { IfOk result
-        (λ reply. Reports (S.held shelf.old) (S.faults shelf.old) (S.faults shelf.new)
-        (asked_of request.entry) reply.status reply.text.items) }
+        (λ reply. ReportsPicture (S.held shelf.old) (S.faults shelf.old) (S.faults shelf.new)
+        (picture_asked_of request.entry) reply.status reply.text.items) }
     ensures same_contents { (other : List ℕ) → S.held shelf.new other ≡ S.held shelf.old other }
     ensures counts_stay { (other : List ℕ) → S.faults shelf.old other ≤ S.faults shelf.new other }
 {
@@ -99,7 +99,7 @@ fn answer(
     run: &[u8],
     schedule: Option<&[u8]>,
 ) -> Result<Reply, NoMemory>
-    ensures { IfOk result (λ reply. IsAnswer reply.status reply.text.items) }
+    ensures { IfOk result (λ reply. IsPictureAnswer reply.status reply.text.items) }
 {
     let breach = joined(alloc, request.breach)?;
     let what = Drawing {

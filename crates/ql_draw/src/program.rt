@@ -1,5 +1,5 @@
 ghost use Rattle.std.specs.Prelude.{◌≡◌, ◌≤◌, ℕ, List, IfOk, OnErr};
-ghost use Rattle.ql_draw.specs.Outcomes.{Says};
+ghost use Rattle.ql_draw.specs.Outcomes.{SaysPicture};
 ghost use Rattle.ql_reply.specs.Wrote.{Wrote};
 ghost use Rattle.ql_reply.specs.Arguments.{word_texts};
 
@@ -21,7 +21,7 @@ pub fn draw<S: Shelf, K: Sink>(
 ) -> Result<Status, NoMemory>
     // What was written is a text that the arguments allow with this status.
     ensures wrote { IfOk result (Wrote
-        (Says (word_texts words.now) (S.held shelf.old) (S.faults shelf.old) (S.faults shelf.new))
+        (SaysPicture (word_texts words.now) (S.held shelf.old) (S.faults shelf.old) (S.faults shelf.new))
         (K.written sink.old) (K.written sink.new) (K.faults sink.old) (K.faults sink.new)) }
     ensures no_memory { OnErr result (K.written sink.new ≡ K.written sink.old) }
 

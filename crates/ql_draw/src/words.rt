@@ -1,7 +1,7 @@
 ghost use Rattle.std.specs.Prelude.{◌≡◌, map};
 ghost use Rattle.std.specs.Option.{option_map};
 ghost use Rattle.std.specs.String.{string_bytes};
-ghost use Rattle.ql_draw.specs.Words.{after_file, asked, asked_of, breach_of, of_files, with_breach};
+ghost use Rattle.ql_draw.specs.Words.{after_file, picture_asked, picture_asked_of, breach_of, of_files, with_breach};
 ghost use Rattle.ql_reply.specs.Arguments.{word_texts};
 
 use ql_reply::is_file_name;
@@ -19,7 +19,7 @@ pub struct Request<'a> {
 
 /// The request that the arguments make, if they ask for a picture.
 pub fn parse_words(words: &Vec<String>) -> Option<Request>
-    ensures { option_map asked_of result ≡ asked (word_texts words.now) }
+    ensures { option_map picture_asked_of result ≡ picture_asked (word_texts words.now) }
 {
     match words.split_first() {
         None => None,
@@ -34,7 +34,7 @@ pub fn parse_words(words: &Vec<String>) -> Option<Request>
 }
 
 fn parse_files(all: bool, words: &[String]) -> Option<Request>
-    ensures { option_map asked_of result ≡ of_files all (map string_bytes words.now) }
+    ensures { option_map picture_asked_of result ≡ of_files all (map string_bytes words.now) }
 {
     match words.split_first() {
         None => None,
@@ -50,7 +50,7 @@ fn parse_files(all: bool, words: &[String]) -> Option<Request>
 
 // The request from the arguments after the name of the first file.
 fn parse_rest<'a>(all: bool, file: &'a str, words: &'a [String]) -> Option<Request<'a>>
-    ensures { option_map asked_of result ≡ after_file all file.now (map string_bytes words.now) }
+    ensures { option_map picture_asked_of result ≡ after_file all file.now (map string_bytes words.now) }
 {
     match words.split_first() {
         None => request_of(all, file, None, Some(words)),
@@ -71,7 +71,7 @@ fn request_of<'a>(
     schedule: Option<&'a str>,
     breach: Option<&'a [String]>,
 ) -> Option<Request<'a>>
-    ensures { option_map asked_of result
+    ensures { option_map picture_asked_of result
         ≡ with_breach all file.now (option_map (λ name. name.now) schedule.entry)
         (option_map (λ words. map string_bytes words.now) breach.entry) }
 {

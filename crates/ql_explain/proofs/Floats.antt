@@ -11,7 +11,7 @@ use Rattle.ql_counter.specs.declared.counter.At.{At}
 use Rattle.ql_counter.specs.declared.counter.At.TheVariants as at
 use Rattle.ql_counter.specs.declared.counter.Counter.{Counter}
 use Rattle.ql_exec.specs.declared.effect.Effect.{Effect}
-use Rattle.ql_explanation.specs.Explanation.{goal_of, unmet_of}
+use Rattle.ql_explanation.specs.Explanation.{goal_of_finding, unmet_of}
 use Rattle.ql_warnings.specs.declared.fact.Fact.{Fact}
 use Rattle.ql_ground.specs.declared.goal.Goal.{Goal}
 use Rattle.ql_lang.specs.declared.contract.Var.{Var}
@@ -23,7 +23,7 @@ use Rattle.ql_report.proofs.Floats.{HasNone, HaveNone, each_none, neither, run_n
 use Rattle.ql_why.specs.Why.{object_names, vars_of}
 use Rattle.ql_warnings.specs.declared.warning.Warning.{Warning}
 use Rattle.ql_warnings.specs.declared.warning.Warning.TheVariants as warning
-use Rattle.ql_explain.specs.JsonExplanations.{AreTargets, AreWarnings, IsReasonOf, IsTarget, at_data, claim_effects, counter_data, fact_data, level_data, place_of, use_data, variables_data, warning_data, warnings_data}
+use Rattle.ql_explain.specs.JsonExplanations.{AreTargets, IsWarningsData, IsShownReason, IsTarget, at_data, claim_effects, counter_data, fact_data, least_level_data, warning_place_data, use_data, variables_data, warning_data, warnings_data}
 
 first : (a b : Bool) → (a || b) ≡ false → a ≡ false
 first false b e = refl
@@ -47,7 +47,7 @@ variables_none [] ids = refl
 variables_none (var ∷ vars) [] = refl
 variables_none (var ∷ vars) (id ∷ ids) = variables_none vars ids
 
-place_none : (w : Warning) → HasNone (place_of w)
+place_none : (w : Warning) → HasNone (warning_place_data w)
 place_none (warning.NamedAsOperation v op) = refl
 place_none (warning.Unbracketed place) = refl
 place_none warning.AsksNothing = refl
@@ -56,7 +56,7 @@ place_none (warning.Unneeded place) = refl
 place_none (warning.RuledOut op at) = refl
 
 warning_none : (p : Program) (w : Warning) → HasNone (warning_data p w)
-warning_none p w = neither (has_float (place_of w)) false (place_none w) refl
+warning_none p w = neither (has_float (warning_place_data w)) false (place_none w) refl
 
 counter_none : (p : Program) (g : Goal) (c : Counter) (facts : List Fact) (ws : List Warning) → HasNone (counter_data p g c facts ws)
 counter_none p g c facts ws =
@@ -70,24 +70,24 @@ counter_none p g c facts ws =
     (neither (has_float (listed (variables_data (vars_of p g) (numbers c.places)))) warned (variables_none (vars_of p g) (numbers c.places))
     (neither (has_float (warnings_data p ws)) false (each_none (warning_data p) (warning_none p) ws) refl))))
 
-reason_none : (p : Program) (u : Option Unmet) (reason : Data) → IsReasonOf p u reason → HasNone reason
+reason_none : (p : Program) (u : Option Unmet) (reason : Data) → IsShownReason p u reason → HasNone reason
 reason_none p None reason is = ap has_float is
 reason_none p (Some u) reason (c, facts, ws, counter, true_facts, warned, is) = ap has_float is ∙ counter_none p u.goal c facts ws
 
-level_none : (f : Finding) → HasNone (level_data f)
+level_none : (f : Finding) → HasNone (least_level_data f)
 level_none (Least g below) = refl
 level_none (NoLevel u) = refl
 
-warnings_none : (source : List ℕ) (p : Program) (g : Goal) (json : Data) → AreWarnings source p g json → HasNone json
+warnings_none : (source : List ℕ) (p : Program) (g : Goal) (json : Data) → IsWarningsData source p g json → HasNone json
 warnings_none source p g json (ws, are, is) = ap has_float is ∙ each_none (warning_data p) (warning_none p) ws
 
 target_none : (source : List ℕ) (p : Program) (f : Finding) (json : Data) → IsTarget source p f json → HasNone json
 target_none source p f json (uses, reason, warnings, are, of, warned, is) =
     let told : Bool = has_float warnings || false in
     let used : Bool = has_float (listed (map (use_data p) uses)) || told in
-    ap has_float is ∙ neither (has_float reason) (has_float (level_data f) || used) (reason_none p (unmet_of f) reason of)
-    (neither (has_float (level_data f)) used (level_none f) (neither (has_float (listed (map (use_data p) uses))) told (each_none (use_data p) (λ o. refl) uses)
-    (neither (has_float warnings) false (warnings_none source p (goal_of f) warnings warned) refl)))
+    ap has_float is ∙ neither (has_float reason) (has_float (least_level_data f) || used) (reason_none p (unmet_of f) reason of)
+    (neither (has_float (least_level_data f)) used (level_none f) (neither (has_float (listed (map (use_data p) uses))) told (each_none (use_data p) (λ o. refl) uses)
+    (neither (has_float warnings) false (warnings_none source p (goal_of_finding f) warnings warned) refl)))
 
 pub targets_none : (source : List ℕ) (p : Program) (findings : List Finding) (targets : List Data) → AreTargets source p findings targets → HaveNone targets
 targets_none source p [] [] are = refl

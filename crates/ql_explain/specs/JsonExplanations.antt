@@ -12,7 +12,7 @@ use Rattle.ql_counter.specs.Countermodels.{AreWithin, IsCounterOf, numbers}
 use Rattle.ql_counter.specs.declared.counter.At.{At}
 use Rattle.ql_counter.specs.declared.counter.At.TheVariants as at
 use Rattle.ql_counter.specs.declared.counter.Counter.{Counter}
-use Rattle.ql_explanation.specs.Explanation.{AreFindings, AreUsesOf, SaysBy, goal_of, unmet_of}
+use Rattle.ql_explanation.specs.Explanation.{AreUsesOf, SaysBy, goal_of_finding, unmet_of}
 use Rattle.ql_warnings.specs.Facts.{IsTrueOf}
 use Rattle.ql_warnings.specs.declared.fact.Claim.{Claim}
 use Rattle.ql_warnings.specs.declared.fact.Claim.TheVariants.{Related, Inside, OneTxn}
@@ -28,7 +28,7 @@ use Rattle.ql_typing.specs.Names.{op_name, txn_name}
 use Rattle.ql_explain.specs.declared.json_counter.Shown.{Shown}
 use Rattle.ql_why.specs.Why.{level_text, object_names, vars_of}
 use Rattle.ql_warnings.specs.Texts.{warning_text, warning_word}
-use Rattle.ql_warnings.specs.Warnings.{IsRuledOut}
+use Rattle.ql_warnings.specs.Warnings.{AreFindings, IsRuledOut}
 use Rattle.ql_warnings.specs.Warnings as warnings
 use Rattle.ql_warnings.specs.declared.warning.Place.{Place}
 use Rattle.ql_warnings.specs.declared.warning.Warning.{Warning}
@@ -61,26 +61,26 @@ abbrev pub place_data : Place → Data
 place_data place = listed (id_data place.line ∷ id_data place.column ∷ [])
 
 -- the position that a warning is about, if it has one
-abbrev pub place_of : Warning → Data
-place_of (warning.NamedAsOperation v op) = null
-place_of (warning.Unbracketed place) = place_data place
-place_of warning.AsksNothing = null
-place_of (warning.NeverApplies place) = place_data place
-place_of (warning.Unneeded place) = place_data place
-place_of (warning.RuledOut op at) = null
+abbrev pub warning_place_data : Warning → Data
+warning_place_data (warning.NamedAsOperation v op) = null
+warning_place_data (warning.Unbracketed place) = place_data place
+warning_place_data warning.AsksNothing = null
+warning_place_data (warning.NeverApplies place) = place_data place
+warning_place_data (warning.Unneeded place) = place_data place
+warning_place_data (warning.RuledOut op at) = null
 
 abbrev pub warning_data : Program → Warning → Data
 warning_data p w =
     object (member (codes "kind") (text_data (warning_word w))
-    (member (codes "place") (place_of w)
+    (member (codes "place") (warning_place_data w)
     (member (codes "text") (text_data (warning_text p w)) no_members)))
 
 abbrev pub warnings_data : Program → List Warning → Data
 warnings_data p ws = listed (map (warning_data p) ws)
 
 -- warnings of a target's contract
-abbrev pub AreWarnings : List ℕ → Program → Goal → Data → Type 0
-AreWarnings source p g json = (ws : List Warning) × warnings.AreWarnings source p g ws × (json ≡ warnings_data p ws)
+abbrev pub IsWarningsData : List ℕ → Program → Goal → Data → Type 0
+IsWarningsData source p g json = (ws : List Warning) × warnings.AreWarnings source p g ws × (json ≡ warnings_data p ws)
 
 -- ---- countermodels
 
@@ -114,27 +114,27 @@ IsCounterData p g json =
     (c : Counter) × (facts : List Fact) × (ws : List Warning) × IsCounterOf p g c × All (IsTrueOf c.execution c.at) facts × All (IsRuledOut p g c) ws × (json ≡ counter_data p g c facts ws)
 
 -- one at the next lower level, or at the highest where none is enough
-abbrev pub IsReasonOf : Program → Option Unmet → Data → Type 0
-IsReasonOf p None json = json ≡ null
-IsReasonOf p (Some u) json = IsCounterData p u.goal json
+abbrev pub IsShownReason : Program → Option Unmet → Data → Type 0
+IsShownReason p None json = json ≡ null
+IsShownReason p (Some u) json = IsCounterData p u.goal json
 
 abbrev pub IsReasonData : Program → Finding → Data → Type 0
-IsReasonData p f json = IsReasonOf p (unmet_of f) json
+IsReasonData p f json = IsShownReason p (unmet_of f) json
 
 -- ---- targets
 
-abbrev pub kind_text : Goal → List ℕ
-kind_text (OpAt o level) = codes "op"
-kind_text (TxnAt d level) = codes "txn"
+abbrev pub goal_kind_text : Goal → List ℕ
+goal_kind_text (OpAt o level) = codes "op"
+goal_kind_text (TxnAt d level) = codes "txn"
 
 abbrev pub name_text : Program → Goal → List ℕ
 name_text p (OpAt o level) = op_name p o.0
 name_text p (TxnAt d level) = txn_name p d.0
 
 -- the least level, where there is one
-abbrev pub level_data : Finding → Data
-level_data (Least g below) = text_data (level_text g)
-level_data (NoLevel u) = null
+abbrev pub least_level_data : Finding → Data
+least_level_data (Least g below) = text_data (level_text g)
+least_level_data (NoLevel u) = null
 
 abbrev pub use_data : Program → OpId → Data
 use_data p o = text_data (op_name p o.0)
@@ -142,15 +142,15 @@ use_data p o = text_data (op_name p o.0)
 abbrev pub target_data : Program → Finding → List OpId → Data → Data → Data
 target_data p f uses reason warnings =
     object (member (codes "countermodel") reason
-    (member (codes "kind") (text_data (kind_text (goal_of f)))
-    (member (codes "level") (level_data f)
-    (member (codes "name") (text_data (name_text p (goal_of f)))
+    (member (codes "kind") (text_data (goal_kind_text (goal_of_finding f)))
+    (member (codes "level") (least_level_data f)
+    (member (codes "name") (text_data (name_text p (goal_of_finding f)))
     (member (codes "uses_strong") (listed (map (use_data p) uses))
     (member (codes "warnings") warnings no_members))))))
 
 abbrev pub IsTarget : List ℕ → Program → Finding → Data → Type 0
 IsTarget source p f json =
-    (uses : List OpId) × (reason : Data) × (warnings : Data) × AreUsesOf p (goal_of f) uses × IsReasonData p f reason × AreWarnings source p (goal_of f) warnings × (json ≡ target_data p f uses reason warnings)
+    (uses : List OpId) × (reason : Data) × (warnings : Data) × AreUsesOf p (goal_of_finding f) uses × IsReasonData p f reason × IsWarningsData source p (goal_of_finding f) warnings × (json ≡ target_data p f uses reason warnings)
 
 -- each finding's, in order
 abbrev pub AreTargets : List ℕ → Program → List Finding → List Data → Type 0

@@ -9,9 +9,9 @@ use Rattle.ql_explain.specs.declared.request.Form.{Form}
 use Rattle.ql_explain.specs.declared.request.Form.TheVariants.{Text, Json}
 
 -- what is found of the source of a name, in a form; or which of its levels are higher than in the stored answer of a name
-pub data Call : Type 0 where
-  Explained : Form → List ℕ → Call
-  Compared : List ℕ → List ℕ → Call
+pub data Inquiry : Type 0 where
+  Explained : Form → List ℕ → Inquiry
+  Compared : List ℕ → List ℕ → Inquiry
 
 -- the argument, if it is a name and no more follow
 abbrev pub only_name : List ℕ → List (List ℕ) → Option (List ℕ)
@@ -22,25 +22,25 @@ abbrev pub one_name : List (List ℕ) → Option (List ℕ)
 one_name [] = None
 one_name (word ∷ words) = only_name word words
 
-abbrev pub plain_of : List ℕ → List (List ℕ) → Option Call
+abbrev pub plain_of : List ℕ → List (List ℕ) → Option Inquiry
 plain_of word words = option_map (Explained Text) (only_name word words)
 
 -- what stands after --json
-abbrev pub json_of : List (List ℕ) → Option Call
+abbrev pub json_of : List (List ℕ) → Option Inquiry
 json_of words = option_map (Explained Json) (one_name words)
 
 -- what stands after --baseline
-abbrev pub against_of : List (List ℕ) → Option Call
+abbrev pub against_of : List (List ℕ) → Option Inquiry
 against_of [] = None
 against_of (word ∷ words) = if is_file_name word then option_map (λ name. Compared word name) (one_name words) else None
 
 -- the request that the arguments make, if they make one
-abbrev pub asked : List (List ℕ) → Option Call
-asked [] = None
-asked (word ∷ words) =
+abbrev pub inquiry : List (List ℕ) → Option Inquiry
+inquiry [] = None
+inquiry (word ∷ words) =
     if bytes_eq word (codes "--json") then json_of words else (if bytes_eq word (codes "--baseline") then against_of words else plain_of word words)
 
 -- a request as data
-abbrev pub call_of : Request → Call
-call_of (request.Explained form name) = Explained form name.now
-call_of (request.Compared pair) = Compared pair.baseline.now pair.source.now
+abbrev pub inquiry_of : Request → Inquiry
+inquiry_of (request.Explained form name) = Explained form name.now
+inquiry_of (request.Compared pair) = Compared pair.baseline.now pair.source.now

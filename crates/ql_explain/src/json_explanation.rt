@@ -1,7 +1,7 @@
 ghost use Rattle.std.specs.Prelude.{◌≡◌, ◌<◌, ◌^◌, IfOk, false, length, map};
 ghost use Rattle.serde_json.specs.View.{items_view, view};
 ghost use Rattle.serde_json.specs.Written.{items_have_float};
-ghost use Rattle.ql_explanation.specs.Explanation.{AreFindings};
+ghost use Rattle.ql_warnings.specs.Warnings.{AreFindings};
 ghost use Rattle.ql_explain.specs.JsonExplanations.{AreTargets, ExplainJsonSays, explanation_json};
 
 use crate::json_target::target;

@@ -1,14 +1,14 @@
 // The kind and the name of a target.
 ghost use Rattle.std.specs.Prelude.{◌≡◌};
 ghost use Rattle.ql_ground.specs.OfPrograms.{IsGoalOf};
-ghost use Rattle.ql_explain.specs.JsonExplanations.{kind_text, name_text};
+ghost use Rattle.ql_explain.specs.JsonExplanations.{goal_kind_text, name_text};
 
 use ql_ground::Goal;
 use ql_typing::Typed;
 
 /// Whether a target is an operation or a transaction.
 pub(crate) fn kind_of(g: Goal) -> &'static str
-    ensures { result.now ≡ kind_text g }
+    ensures { result.now ≡ goal_kind_text g }
 {
     match g {
         Goal::OpAt(_, _) => "op",

@@ -4,11 +4,12 @@ ghost use Rattle.std.specs.List.{All};
 ghost use Rattle.serde_json.specs.Data.{put as with_member};
 ghost use Rattle.serde_json.specs.View.{members_view, view};
 ghost use Rattle.ql_classify.specs.Finding.{IsFinding};
-ghost use Rattle.ql_explanation.specs.Explanation.{AreFindings, goal_of};
+ghost use Rattle.ql_warnings.specs.Warnings.{AreFindings};
+ghost use Rattle.ql_explanation.specs.Explanation.{goal_of_finding};
 ghost use Rattle.ql_ground.specs.OfPrograms.{IsGoalOf};
 ghost use Rattle.ql_report.specs.JsonValues.{listed, text_data};
 ghost use Rattle.ql_typing.specs.Operations.{all_ops};
-ghost use Rattle.ql_explain.specs.JsonExplanations.{IsReasonData, IsTarget, kind_text, level_data, name_text, target_data, use_data};
+ghost use Rattle.ql_explain.specs.JsonExplanations.{IsReasonData, IsTarget, goal_kind_text, least_level_data, name_text, target_data, use_data};
 
 use crate::json_counter::{shown_of, shown_value};
 use crate::json_names::{kind_of, name_of};
@@ -71,7 +72,7 @@ fn target_value(
     warnings: Json,
 ) -> Result<Json, NoMemory>
     requires goal { IsGoalOf t.now.program g }
-    requires target { g ≡ goal_of finding.now }
+    requires target { g ≡ goal_of_finding finding.now }
     requires uses { All (λ o. o.0 < length (all_ops t.now.program.types)) uses.now }
     ensures { IfOk result
         (λ json. view json ≡ target_data t.now.program finding.now uses.now (view reason)
@@ -98,11 +99,11 @@ fn put_names(
     g: Goal,
 ) -> Result<(), NoMemory>
     requires goal { IsGoalOf t.now.program g }
-    requires target { g ≡ goal_of finding.now }
+    requires target { g ≡ goal_of_finding finding.now }
     ensures { OnOk result (members_view members.new.entries ≡
         with_member (codes "name") (text_data (name_text t.now.program g))
-        (with_member (codes "level") (level_data finding.now)
-        (with_member (codes "kind") (text_data (kind_text g))
+        (with_member (codes "level") (least_level_data finding.now)
+        (with_member (codes "kind") (text_data (goal_kind_text g))
         (members_view members.old.entries)))) }
 {
     put(members, alloc, "kind", text(alloc, kind_of(g).as_bytes())?)?;
@@ -113,7 +114,7 @@ fn put_names(
 
 // The least level.
 fn level(alloc: Global, finding: &Finding) -> Result<Json, NoMemory>
-    ensures { IfOk result (λ json. view json ≡ level_data finding.now) }
+    ensures { IfOk result (λ json. view json ≡ least_level_data finding.now) }
 {
     match finding {
         Finding::Least { goal, .. } => text(alloc, level_text(*goal).as_bytes()),

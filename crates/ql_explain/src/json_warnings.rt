@@ -2,7 +2,7 @@
 ghost use Rattle.std.specs.Prelude.{◌≡◌, IfOk};
 ghost use Rattle.serde_json.specs.View.{view};
 ghost use Rattle.ql_ground.specs.OfPrograms.{IsGoalOf};
-ghost use Rattle.ql_explain.specs.JsonExplanations.{AreWarnings, place_data, place_of, warning_data, warnings_data};
+ghost use Rattle.ql_explain.specs.JsonExplanations.{IsWarningsData, place_data, warning_place_data, warning_data, warnings_data};
 ghost use Rattle.ql_report.specs.JsonValues.{text_data};
 ghost use Rattle.ql_warnings.specs.Texts.{warning_text};
 
@@ -17,7 +17,7 @@ use std::alloc::Global;
 /// What there is to warn of in a target's contract.
 pub(crate) fn warnings(alloc: Global, lexed: &Lexed, t: &Typed, g: Goal) -> Result<Json, NoMemory>
     requires { IsGoalOf t.now.program g }
-    ensures { IfOk result (λ json. AreWarnings lexed.now t.now.program g (view json)) }
+    ensures { IfOk result (λ json. IsWarningsData lexed.now t.now.program g (view json)) }
 {
     let found = warnings_of(alloc, lexed, t, g)?;
     warnings_value(alloc, t, &found)
@@ -52,7 +52,7 @@ fn warning(alloc: Global, t: &Typed, warning: Warning) -> Result<Json, NoMemory>
 
 // The position that a warning is about, if it has one.
 fn place(alloc: Global, warning: Warning) -> Result<Json, NoMemory>
-    ensures { IfOk result (λ json. view json ≡ place_of warning) }
+    ensures { IfOk result (λ json. view json ≡ warning_place_data warning) }
 {
     match warning {
         Warning::Unbracketed(place) => place_value(alloc, place),

@@ -1,5 +1,5 @@
 ghost use Rattle.std.specs.Prelude.{◌≡◌, ◌<◌, ◌≤◌, ◌^◌, ℕ, List, IfOk, IfSome, length};
-ghost use Rattle.ql_explain.specs.Outcomes.{Says, SaysIn, Reports, most_bytes};
+ghost use Rattle.ql_explain.specs.Outcomes.{SaysInquiry, SaysIn, ReportsInquiry, most_bytes};
 ghost use Rattle.ql_explain.specs.Words.{Compared, Explained};
 ghost use Rattle.ql_reply.specs.Arguments.{word_texts};
 ghost use Rattle.ql_reply.specs.Unread.{IsUnread};
@@ -25,7 +25,7 @@ pub(crate) fn outcome<S: Shelf>(
     shelf: &mut S,
 ) -> Result<Answered, NoMemory>
     ensures says { IfOk result
-        (λ answered. Says (word_texts words.now) (S.held shelf.old) (S.faults shelf.old)
+        (λ answered. SaysInquiry (word_texts words.now) (S.held shelf.old) (S.faults shelf.old)
         (S.faults shelf.new) answered.reply.status answered.reply.text.items) }
     ensures same_contents { (other : List ℕ) → S.held shelf.new other ≡ S.held shelf.old other }
     ensures counts_stay { (other : List ℕ) → S.faults shelf.old other ≤ S.faults shelf.new other }
@@ -54,7 +54,7 @@ fn of_source<S: Shelf>(
     shelf: &mut S,
 ) -> Result<Answered, NoMemory>
     ensures says { IfOk result
-        (λ answered. Reports (S.held shelf.old) (S.faults shelf.old) (S.faults shelf.new)
+        (λ answered. ReportsInquiry (S.held shelf.old) (S.faults shelf.old) (S.faults shelf.new)
         (Explained form name.now) answered.reply.status answered.reply.text.items) }
     ensures same_contents { (other : List ℕ) → S.held shelf.new other ≡ S.held shelf.old other }
     ensures counts_stay { (other : List ℕ) → S.faults shelf.old other ≤ S.faults shelf.new other }
@@ -71,7 +71,7 @@ fn of_source<S: Shelf>(
 
 fn of_pair<S: Shelf>(alloc: Global, pair: Pair, shelf: &mut S) -> Result<Answered, NoMemory>
     ensures says { IfOk result
-        (λ answered. Reports (S.held shelf.old) (S.faults shelf.old) (S.faults shelf.new)
+        (λ answered. ReportsInquiry (S.held shelf.old) (S.faults shelf.old) (S.faults shelf.new)
         (Compared pair.entry.baseline.now pair.entry.source.now) answered.reply.status answered.reply.text.items) }
     ensures same_contents { (other : List ℕ) → S.held shelf.new other ≡ S.held shelf.old other }
     ensures counts_stay { (other : List ℕ) → S.faults shelf.old other ≤ S.faults shelf.new other }
@@ -92,7 +92,7 @@ fn with_baseline<S: Shelf>(
     requires held { IfSome (S.held shelf.old pair.baseline.now) (λ whole. baseline.items ≡ whole) }
     requires short { length baseline.items ≤ most_bytes }
     ensures says { IfOk result
-        (λ answered. Reports (S.held shelf.old) (S.faults shelf.old) (S.faults shelf.new)
+        (λ answered. ReportsInquiry (S.held shelf.old) (S.faults shelf.old) (S.faults shelf.new)
         (Compared pair.entry.baseline.now pair.entry.source.now) answered.reply.status answered.reply.text.items) }
     ensures same_contents { (other : List ℕ) → S.held shelf.new other ≡ S.held shelf.old other }
     ensures counts_stay { (other : List ℕ) → S.faults shelf.old other ≤ S.faults shelf.new other }

@@ -1,7 +1,7 @@
 ghost use Rattle.std.specs.Prelude.{◌≡◌, map};
 ghost use Rattle.std.specs.Option.{option_map};
 ghost use Rattle.std.specs.String.{string_bytes};
-ghost use Rattle.ql_explain.specs.Words.{Compared, against_of, asked, call_of, json_of, one_name, only_name, plain_of};
+ghost use Rattle.ql_explain.specs.Words.{Compared, against_of, inquiry, inquiry_of, json_of, one_name, only_name, plain_of};
 ghost use Rattle.ql_reply.specs.Arguments.{word_texts};
 
 use ql_reply::is_file_name;
@@ -31,7 +31,7 @@ pub(crate) enum Request<'a> {
 
 /// The request that the arguments make, if they make one.
 pub(crate) fn parse_words(words: &Vec<String>) -> Option<Request>
-    ensures { option_map call_of result ≡ asked (word_texts words.now) }
+    ensures { option_map inquiry_of result ≡ inquiry (word_texts words.now) }
 {
     match words.split_first() {
         None => None,
@@ -48,7 +48,7 @@ pub(crate) fn parse_words(words: &Vec<String>) -> Option<Request>
 }
 
 fn json(words: &[String]) -> Option<Request>
-    ensures { option_map call_of result ≡ json_of (map string_bytes words.now) }
+    ensures { option_map inquiry_of result ≡ json_of (map string_bytes words.now) }
 {
     match one_name(words) {
         None => None,
@@ -57,7 +57,7 @@ fn json(words: &[String]) -> Option<Request>
 }
 
 fn plain<'a>(word: &'a str, rest: &[String]) -> Option<Request<'a>>
-    ensures { option_map call_of result ≡ plain_of word.now (map string_bytes rest.now) }
+    ensures { option_map inquiry_of result ≡ plain_of word.now (map string_bytes rest.now) }
 {
     match only_name(word, rest) {
         None => None,
@@ -67,7 +67,7 @@ fn plain<'a>(word: &'a str, rest: &[String]) -> Option<Request<'a>>
 
 // The request that the arguments after `--baseline` make: the names of a stored answer and of a source.
 fn against(words: &[String]) -> Option<Request>
-    ensures { option_map call_of result ≡ against_of (map string_bytes words.now) }
+    ensures { option_map inquiry_of result ≡ against_of (map string_bytes words.now) }
 {
     match words.split_first() {
         None => None,
@@ -82,7 +82,7 @@ fn against(words: &[String]) -> Option<Request>
 }
 
 fn compared<'a>(baseline: &'a str, source: Option<&'a str>) -> Option<Request<'a>>
-    ensures { option_map call_of result
+    ensures { option_map inquiry_of result
         ≡ option_map (λ name. Compared baseline.now name)
         (option_map (λ name. name.now) source.entry) }
 {

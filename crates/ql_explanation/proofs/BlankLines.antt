@@ -7,16 +7,16 @@ use Rattle.ql_classify.specs.declared.finding.Finding.{Finding}
 use Rattle.ql_lang.specs.declared.program.Program.{Program}
 use Rattle.ql_why.proofs.Turns.{turn_more}
 use Rattle.ql_why.specs.Why.{Appended}
-use Rattle.ql_explanation.specs.Explanation.{AreSections, IsNextSection, IsSection}
+use Rattle.ql_explanation.specs.Explanation.{AreSections, IsNextSection, IsTargetSection}
 
 module _ (source : List ℕ) (p : Program) where
   pub section_more : (findings : List Finding) (k : ℕ) (f : Finding) (old gapped new : List ℕ) → slice_get findings k ≡ Some f → AreSections source p (take k findings) old
-      → (k ≡ 0 → gapped ≡ old) → (0 < k → gapped ≡ old ++ codes "\n") → Appended (IsSection source p f) gapped new → AreSections source p (take (k + 1) findings) new
+      → (k ≡ 0 → gapped ≡ old) → (0 < k → gapped ≡ old ++ codes "\n") → Appended (IsTargetSection source p f) gapped new → AreSections source p (take (k + 1) findings) new
   section_more [] k f old gapped new at are first others told = absurd (cc)
   section_more (g ∷ findings) zero f old gapped new at none first others (section, is, e) = (
     section,
     [],
-    subst (λ h. IsSection source p h section) (sym (same_Some g f at)) is,
+    subst (λ h. IsTargetSection source p h section) (sym (same_Some g f at)) is,
     refl,
     e ∙ ap (λ z. z ++ section) (first refl ∙ none) ∙ sym (append-nil section),
   )

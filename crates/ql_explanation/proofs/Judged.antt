@@ -26,8 +26,8 @@ use Rattle.ql_levels.specs.declared.level.Level.TheVariants.{Strong}
 use Rattle.ql_levels.specs.declared.level.TxnLevel.{TxnLevel}
 use Rattle.ql_levels.specs.declared.level.TxnLevel.TheVariants.{Rr}
 use Rattle.ql_typing.specs.Operations.{all_ops, names_op, uses_op}
-use Rattle.ql_warnings.specs.Warnings.{HasLevel}
-use Rattle.ql_explanation.specs.Explanation.{AreFindings, HasLeastLevel, IsAccepted, IsAnswerOf, IsRefused, IsStrong, IsStrongIn, SaysBy}
+use Rattle.ql_warnings.specs.Warnings.{AreFindings, HasLevel}
+use Rattle.ql_explanation.specs.Explanation.{HasLeastLevel, HasAllLevels, IsStatusOf, LacksLevel, IsStrongFinding, IsStrongIn, SaysBy}
 
 -- a list's item
 item_at : {X : Type 0} (xs : List X) (k : ℕ) → k < length xs → (x : X) × (slice_get xs k ≡ Some x)
@@ -56,19 +56,19 @@ module _ (p : Program) where
   -- ---- strong operations
 
   -- an operation's finding that is strong, and one that isn't
-  pub strong_level : (o : ℕ) (f : Finding) → IsFinding p o f → IsStrong f → IsOpLevel p o Strong
+  pub strong_level : (o : ℕ) (f : Finding) → IsFinding p o f → IsStrongFinding f → IsOpLevel p o Strong
   strong_level o (Least (OpAt n level) below) is strong = subst (λ k. IsOpLevel p k Strong) (sym is.0.0) (subst (λ (l : Level). IsOpLevel p n.0 l) strong is.1)
   strong_level o (Least (TxnAt d level) below) is strong = absurd strong
   strong_level o (NoLevel u) is strong = absurd strong
 
-  pub other_level : (o : ℕ) (f : Finding) → o < length (all_ops p.types) → IsFinding p o f → (IsStrong f → ⊥) → IsOpLevel p o Strong → ⊥
+  pub other_level : (o : ℕ) (f : Finding) → o < length (all_ops p.types) → IsFinding p o f → (IsStrongFinding f → ⊥) → IsOpLevel p o Strong → ⊥
   other_level o (Least (OpAt n level) below) less is other strong = other (one_op_level p o level Strong (subst (λ k. IsOpLevel p k level) (sym is.0.0) is.1) strong)
   other_level o (Least (TxnAt d level) below) less is other strong = absurd (omega (arith, is.0.0, less))
   other_level o (NoLevel u) less is other strong = no_op_level o u.goal u.assignment is.0 is.1 is.2 less Strong strong
 
   -- whether a transaction uses an operation that is strong, where it uses it
   pub strong_use : (findings : List Finding) (d : ℕ) (o : OpId) (f : Finding) (strong : Bool) → AreFindings p findings → o.0 < length (all_ops p.types) → slice_get findings o.0 ≡ Some f → uses_op p d o.0 ≡ true
-      → MatchBool strong (IsStrong f) (IsStrong f → ⊥) → MatchBool strong (IsStrongIn p d o) (IsStrongIn p d o → ⊥)
+      → MatchBool strong (IsStrongFinding f) (IsStrongFinding f → ⊥) → MatchBool strong (IsStrongIn p d o) (IsStrongIn p d o → ⊥)
   strong_use findings d o f true are known here used is = record { known = known; used = used; strong = strong_level o.0 f (are.each o.0 f here) is }
   strong_use findings d o f false are known here used other = λ is. other_level o.0 f known (are.each o.0 f here) other is.strong
 
@@ -98,11 +98,11 @@ module _ (p : Program) where
     no_level target (Least g below) is none found = none tt
     no_level target (NoLevel u) is none found = no_level_of target found.0 u.goal u.assignment is.0 is.1 is.2 found.1 found.2
 
-    pub refused_level : ((k : ℕ) × (f : Finding) × (slice_get findings k ≡ Some f) × (HasLevel f → ⊥)) → IsRefused p
+    pub refused_level : ((k : ℕ) × (f : Finding) × (slice_get findings k ≡ Some f) × (HasLevel f → ⊥)) → LacksLevel p
     refused_level (k, f, here, none) =
         inl (k, subst (λ n. k < n) are.all (slice_get_within findings k f here), no_level k f (are.each k f here) none)
 
-    pub accepted : ((k : ℕ) (f : Finding) → slice_get findings k ≡ Some f → HasLevel f) → ((d : ℕ) (o : OpId) → d < length p.txns → IsStrongIn p d o → ⊥) → IsAccepted p
+    pub accepted : ((k : ℕ) (f : Finding) → slice_get findings k ≡ Some f → HasLevel f) → ((d : ℕ) (o : OpId) → d < length p.txns → IsStrongIn p d o → ⊥) → HasAllLevels p
     accepted levels weak = record {
       levels = λ target less.
           let found = item_at findings target (subst (λ n. target < n) (sym are.all) less) in
@@ -111,7 +111,7 @@ module _ (p : Program) where
     }
 
 -- what is said with an answer, in any form of explanation
-pub explained : (Explains : List ℕ → Program → List ℕ → Type 0) (source text : List ℕ) (p : Program) (answer : Status) → IsSourceOf source p → IsAnswerOf p answer → Explains source p text
+pub explained : (Explains : List ℕ → Program → List ℕ → Type 0) (source text : List ℕ) (p : Program) (answer : Status) → IsSourceOf source p → IsStatusOf p answer → Explains source p text
     → SaysBy Explains source answer text
 explained Explains source text p Done of is told = (p, of, is, told)
 explained Explains source text p No of is told = (p, of, is, told)

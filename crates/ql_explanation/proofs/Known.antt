@@ -14,14 +14,14 @@ use Rattle.ql_ground.specs.declared.goal.Goal.TheVariants.{OpAt, TxnAt}
 use Rattle.ql_lang.specs.declared.program.Program.{Program}
 use Rattle.ql_typing.specs.Operations.{all_ops}
 use Rattle.ql_why.proofs.Lower.{op_below, txn_below}
-use Rattle.ql_explanation.specs.Explanation.{AreUsesOf, goal_of, unmet_of}
+use Rattle.ql_explanation.specs.Explanation.{AreUsesOf, goal_of_finding, unmet_of}
 
 module _ (p : Program) where
   of_target : (target : ℕ) (g : Goal) → IsOfTarget p target g → IsGoalOf p g
   of_target target (OpAt o level) is = is.1
   of_target target (TxnAt d level) is = is.1
 
-  pub goal_known : (f : Finding) → ((target : ℕ) × IsFinding p target f) → IsGoalOf p (goal_of f)
+  pub goal_known : (f : Finding) → ((target : ℕ) × IsFinding p target f) → IsGoalOf p (goal_of_finding f)
   goal_known (Least g below) (target, is) = of_target target g is.0
   goal_known (NoLevel u) (target, is) = of_target target u.goal is.0
 

@@ -23,21 +23,16 @@ use Rattle.ql_why.specs.Why.{InTurn, counter_text, target_line}
 use Rattle.ql_counter.specs.Countermodels.{IsCounterOf}
 use Rattle.ql_counter.specs.declared.counter.Counter.{Counter}
 use Rattle.ql_warnings.specs.Texts.{warning_text}
-use Rattle.ql_warnings.specs.Warnings.{AreWarnings, IsRuledOut}
-use Rattle.ql_warnings.specs.Warnings as warnings
+use Rattle.ql_warnings.specs.Warnings.{AreFindings, AreWarnings, IsRuledOut}
 use Rattle.ql_warnings.specs.declared.warning.Warning.{Warning}
 use Rattle.ql_explanation.specs.declared.words.TheConstants.{LOWEST, STRONG_USE, WAY_OUT}
 
 -- ---- what is found
 
--- a finding of each target, in order
-abbrev pub AreFindings : Program → List Finding → Type 0
-AreFindings p findings = warnings.AreFindings p findings
-
 -- the target of a finding, at its least level or at the highest
-abbrev pub goal_of : Finding → Goal
-goal_of (Least g below) = g
-goal_of (NoLevel u) = u.goal
+abbrev pub goal_of_finding : Finding → Goal
+goal_of_finding (Least g below) = g
+goal_of_finding (NoLevel u) = u.goal
 
 -- the goal that isn't met: the next lower one, or the highest
 abbrev pub unmet_of : Finding → Option Unmet
@@ -45,9 +40,9 @@ unmet_of (Least g below) = below
 unmet_of (NoLevel u) = Some u
 
 -- it is an operation's, whose least level is strong
-abbrev pub IsStrong : Finding → Type 0
-IsStrong (Least (OpAt o level) below) = level ≡ Strong
-IsStrong _ = ⊥
+abbrev pub IsStrongFinding : Finding → Type 0
+IsStrongFinding (Least (OpAt o level) below) = level ≡ Strong
+IsStrongFinding _ = ⊥
 
 -- the transaction uses the operation, whose least level is strong
 pub record IsStrongIn (p : Program) (d : ℕ) (o : OpId) : Type 0 where
@@ -72,19 +67,19 @@ abbrev pub HasLeastLevel : Program → ℕ → Type 0
 HasLeastLevel p target = (g : Goal) × IsOfTarget p target g × IsLeastLevel p g
 
 -- each target has a least level, and no transaction uses an operation whose least level is strong
-pub record IsAccepted (p : Program) : Type 0 where
+pub record HasAllLevels (p : Program) : Type 0 where
   pub levels : (target : ℕ) → target < targets p → HasLeastLevel p target
   pub weak : (d : ℕ) (o : OpId) → IsStrongIn p d o → ⊥
 
 -- some target has none, or some transaction uses such an operation
-abbrev pub IsRefused : Program → Type 0
-IsRefused p = ((target : ℕ) × (target < targets p) × (HasLeastLevel p target → ⊥)) ⊎ ((d : ℕ) × (o : OpId) × IsStrongIn p d o)
+abbrev pub LacksLevel : Program → Type 0
+LacksLevel p = ((target : ℕ) × (target < targets p) × (HasLeastLevel p target → ⊥)) ⊎ ((d : ℕ) × (o : OpId) × IsStrongIn p d o)
 
 -- yes or no, by that
-abbrev pub IsAnswerOf : Program → Status → Type 0
-IsAnswerOf p Done = IsAccepted p
-IsAnswerOf p No = IsRefused p
-IsAnswerOf p _ = ⊥
+abbrev pub IsStatusOf : Program → Status → Type 0
+IsStatusOf p Done = HasAllLevels p
+IsStatusOf p No = LacksLevel p
+IsStatusOf p _ = ⊥
 
 -- ---- the text
 
@@ -98,13 +93,13 @@ first_line p (Least g below) = target_line p g
 first_line p (NoLevel u) = none_line p u.goal
 
 -- strong F in G, for each
-abbrev pub uses_text : Program → ℕ → List OpId → List ℕ
-uses_text p d [] = []
-uses_text p d (o ∷ uses) = strong_text p d o.0 ++ uses_text p d uses
+abbrev pub strong_uses_text : Program → ℕ → List OpId → List ℕ
+strong_uses_text p d [] = []
+strong_uses_text p d (o ∷ uses) = strong_text p d o.0 ++ strong_uses_text p d uses
 
 abbrev pub strong_lines : Program → Goal → List OpId → List ℕ
 strong_lines p (OpAt o level) uses = []
-strong_lines p (TxnAt d level) uses = uses_text p d.0 uses
+strong_lines p (TxnAt d level) uses = strong_uses_text p d.0 uses
 
 -- the sentences on why a transaction can't use a strong operation, and what one can do
 abbrev pub way_out_text : List ℕ → List ℕ
@@ -126,40 +121,40 @@ IsCounterPart p g text =
     (c : Counter) × IsCounterOf p g c × (words : List ℕ) × (warned : List Warning) × All (IsRuledOut p g c) warned × (text ≡ words ++ warned_text p warned ++ codes "\n" ++ counter_text p g c)
 
 -- why the lower levels, or all, aren't enough; or that there is no lower one
-abbrev pub IsReasonOf : Program → Option Unmet → List ℕ → Type 0
-IsReasonOf p None text = text ≡ LOWEST.now
-IsReasonOf p (Some u) text = IsCounterPart p u.goal text
+abbrev pub IsReasonText : Program → Option Unmet → List ℕ → Type 0
+IsReasonText p None text = text ≡ LOWEST.now
+IsReasonText p (Some u) text = IsCounterPart p u.goal text
 
 abbrev pub IsReason : Program → Finding → List ℕ → Type 0
-IsReason p f text = IsReasonOf p (unmet_of f) text
+IsReason p f text = IsReasonText p (unmet_of f) text
 
 -- the section of a target
-pub record IsSection (source : List ℕ) (p : Program) (f : Finding) (text : List ℕ) : Type 0 where
+pub record IsTargetSection (source : List ℕ) (p : Program) (f : Finding) (text : List ℕ) : Type 0 where
   pub uses : List OpId
-  pub are_uses : AreUsesOf p (goal_of f) uses
+  pub are_uses : AreUsesOf p (goal_of_finding f) uses
   pub warned : List Warning
-  pub are_warned : AreWarnings source p (goal_of f) warned
+  pub are_warned : AreWarnings source p (goal_of_finding f) warned
   pub reason : List ℕ
   pub is_reason : IsReason p f reason
-  pub whole : text ≡ first_line p f ++ strong_lines p (goal_of f) uses ++ ways_out_text p uses ++ warned_text p warned ++ reason
+  pub whole : text ≡ first_line p f ++ strong_lines p (goal_of_finding f) uses ++ ways_out_text p uses ++ warned_text p warned ++ reason
 
 -- a section after a blank line
 abbrev pub IsNextSection : List ℕ → Program → Finding → List ℕ → Type 0
-IsNextSection source p f text = (section : List ℕ) × IsSection source p f section × (text ≡ codes "\n" ++ section)
+IsNextSection source p f text = (section : List ℕ) × IsTargetSection source p f section × (text ≡ codes "\n" ++ section)
 
 -- the section of each finding in order, with a blank line between them
 abbrev pub AreSections : List ℕ → Program → List Finding → List ℕ → Type 0
 AreSections source p [] text = text ≡ []
 AreSections source p (f ∷ findings) text =
-    (first : List ℕ) × (others : List ℕ) × IsSection source p f first × InTurn (IsNextSection source p) findings others × (text ≡ first ++ others)
+    (first : List ℕ) × (others : List ℕ) × IsTargetSection source p f first × InTurn (IsNextSection source p) findings others × (text ≡ first ++ others)
 
 abbrev pub IsExplanation : List ℕ → Program → List ℕ → Type 0
 IsExplanation source p text = (findings : List Finding) × AreFindings p findings × AreSections source p findings text
 
 -- what is said of a source: the answer with an explanation of this form, or its first fault
 abbrev pub SaysBy : (List ℕ → Program → List ℕ → Type 0) → List ℕ → Status → List ℕ → Type 0
-SaysBy Explains bytes Done text = (p : Program) × IsSourceOf bytes p × IsAccepted p × Explains bytes p text
-SaysBy Explains bytes No text = (p : Program) × IsSourceOf bytes p × IsRefused p × Explains bytes p text
+SaysBy Explains bytes Done text = (p : Program) × IsSourceOf bytes p × HasAllLevels p × Explains bytes p text
+SaysBy Explains bytes No text = (p : Program) × IsSourceOf bytes p × LacksLevel p × Explains bytes p text
 SaysBy Explains bytes Bad text = BadSourceSays bytes text
 SaysBy Explains bytes _ text = ⊥
 

@@ -2,8 +2,8 @@
 ghost use Rattle.std.specs.Prelude.{◌≡◌, ◌<◌, ℕ, MatchBool, Some, length, slice_get};
 ghost use Rattle.ql_base.specs.declared.ids.OpId.{OpId};
 ghost use Rattle.ql_classify.specs.declared.finding.Finding.{Finding};
-ghost use Rattle.ql_explanation.specs.Explanation.{AreFindings, IsAnswerOf, IsStrongIn};
-ghost use Rattle.ql_warnings.specs.Warnings.{HasLevel};
+ghost use Rattle.ql_explanation.specs.Explanation.{IsStatusOf, IsStrongIn};
+ghost use Rattle.ql_warnings.specs.Warnings.{AreFindings, HasLevel};
 
 use crate::finding::finding_at;
 use crate::uses::is_strong_use;
@@ -15,7 +15,7 @@ use ql_typing::Typed;
 /// Yes where each target has a level and no transaction uses a strong operation, else no.
 pub fn answer_of(t: &Typed, findings: &[Finding]) -> Status
     requires { AreFindings t.now.program findings.now }
-    ensures { IsAnswerOf t.now.program result }
+    ensures { IsStatusOf t.now.program result }
 {
     if !all_have_levels(findings) {
         return Status::No;

@@ -1,7 +1,8 @@
 ghost use Rattle.std.specs.Prelude.{◌≡◌, ◌<◌, ◌^◌, ◌++◌, ℕ, IfOk, OnOk, codes, length};
 ghost use Rattle.ql_classify.specs.Finding.{IsFinding};
 ghost use Rattle.ql_why.specs.Why.{Appended};
-ghost use Rattle.ql_explanation.specs.Explanation.{AreFindings, AreSections, ExplainSays, IsSection};
+ghost use Rattle.ql_warnings.specs.Warnings.{AreFindings};
+ghost use Rattle.ql_explanation.specs.Explanation.{AreSections, ExplainSays, IsTargetSection};
 
 use crate::answer::answer_of;
 use crate::finding::{finding_at, findings};
@@ -78,7 +79,7 @@ fn push_section(
     requires findings { AreFindings t.now.program findings.now }
     requires finding { (target : ℕ) × IsFinding t.now.program target finding.now }
     ensures { OnOk result
-        (Appended (IsSection lexed.now t.now.program finding.now) text.old.items text.new.items) }
+        (Appended (IsTargetSection lexed.now t.now.program finding.now) text.old.items text.new.items) }
 {
     let goal = goal_of(finding);
     let uses = uses_of(alloc, t, findings, goal)?;

@@ -1,6 +1,6 @@
 // What is found of each target.
 ghost use Rattle.std.specs.Prelude.{◌≡◌, ◌<◌, IfOk, Some, length, slice_get};
-ghost use Rattle.ql_explanation.specs.Explanation.{AreFindings};
+ghost use Rattle.ql_warnings.specs.Warnings.{AreFindings};
 
 use ql_base::NoMemory;
 use ql_classify::{Finding, find_target};

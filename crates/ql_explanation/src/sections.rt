@@ -4,23 +4,8 @@ ghost use Rattle.std.specs.List.{All};
 ghost use Rattle.std.specs.Option.{option_copied};
 ghost use Rattle.ql_classify.specs.Finding.{IsFinding, IsUnmet};
 ghost use Rattle.ql_ground.specs.OfPrograms.{IsGoalOf};
-ghost use Rattle.ql_warnings.specs.Warnings.{AreWarnings};
-ghost use Rattle.ql_explanation.specs.Explanation.{
-  AreFindings,
-  AreUsesOf,
-  IsCounterPart,
-  IsReason,
-  IsSection,
-  IsStrongIn,
-  first_line,
-  goal_of,
-  none_line,
-  strong_lines,
-  unmet_of,
-  uses_text,
-  warned_text,
-  ways_out_text,
-};
+ghost use Rattle.ql_warnings.specs.Warnings.{AreFindings, AreWarnings};
+ghost use Rattle.ql_explanation.specs.Explanation.{AreUsesOf, IsCounterPart, IsReason, IsTargetSection, IsStrongIn, first_line, goal_of_finding, none_line, strong_lines, unmet_of, strong_uses_text, warned_text, ways_out_text};
 
 use crate::words::{LOWEST, counter_words, push_ways_out};
 use ql_base::{DeclId, NoMemory, OpId, push_bytes};
@@ -44,12 +29,12 @@ pub(crate) fn section(
 ) -> Result<Vec<u8>, NoMemory>
     requires findings { AreFindings t.now.program findings.now }
     requires finding { (target : ℕ) × IsFinding t.now.program target finding.now }
-    requires target { g ≡ goal_of finding.now }
+    requires target { g ≡ goal_of_finding finding.now }
     requires known { IsGoalOf t.now.program g }
     requires uses { AreUsesOf t.now.program g remarks.uses.now }
     ensures { IfOk result
         (λ text. (source : List ℕ) → AreWarnings source t.now.program g remarks.entry.warned.now
-        → IsSection source t.now.program finding.now text.items) }
+        → IsTargetSection source t.now.program finding.now text.items) }
 {
     let mut text = Vec::new(alloc);
     push_first_line(&mut text, t, finding, g)?;
@@ -107,7 +92,7 @@ fn push_warned(
 
 /// The target at its least level, or at the highest where none is enough.
 pub fn goal_of(finding: &Finding) -> Goal
-    ensures { result ≡ goal_of finding.now }
+    ensures { result ≡ goal_of_finding finding.now }
 {
     match finding {
         Finding::Least { goal, .. } => *goal,
@@ -117,7 +102,7 @@ pub fn goal_of(finding: &Finding) -> Goal
 
 fn push_first_line(out: &mut Vec<u8>, t: &Typed, finding: &Finding, g: Goal) -> Result<(), NoMemory>
     requires known { IsGoalOf t.now.program g }
-    requires target { g ≡ goal_of finding.now }
+    requires target { g ≡ goal_of_finding finding.now }
     ensures { OnOk result (out.new.items ≡ out.old.items ++ first_line t.now.program finding.now) }
 {
     match finding {
@@ -170,7 +155,7 @@ fn push_strong(
 ) -> Result<(), NoMemory>
     requires txn { d.0 < length t.now.program.txns }
     requires uses { All (IsStrongIn t.now.program d.0) uses.now }
-    ensures { OnOk result (out.new.items ≡ out.old.items ++ uses_text t.now.program d.0 uses.now) }
+    ensures { OnOk result (out.new.items ≡ out.old.items ++ strong_uses_text t.now.program d.0 uses.now) }
 {
     let Some((o, others)) = uses.split_first() else {
         return Ok(());

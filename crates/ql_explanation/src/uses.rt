@@ -2,7 +2,8 @@
 ghost use Rattle.std.specs.Prelude.{◌≡◌, ◌+◌, ◌<◌, IfOk, MatchBool, OnOk, Some, length, slice_get};
 ghost use Rattle.ql_ground.specs.OfPrograms.{IsGoalOf};
 ghost use Rattle.ql_typing.specs.Operations.{all_ops};
-ghost use Rattle.ql_explanation.specs.Explanation.{AreFindings, AreStrongIn, AreUsesOf, IsStrong, IsStrongIn};
+ghost use Rattle.ql_warnings.specs.Warnings.{AreFindings};
+ghost use Rattle.ql_explanation.specs.Explanation.{AreStrongIn, AreUsesOf, IsStrongFinding, IsStrongIn};
 ghost use Rattle.ql_explanation.specs.Parts.{AreStrongBelow};
 
 use ql_base::{DeclId, NoMemory, OpId};
@@ -90,7 +91,7 @@ fn finding_of(findings: &[Finding], o: OpId) -> &Finding
 }
 
 fn is_strong(finding: &Finding) -> bool
-    ensures { MatchBool result (IsStrong finding.now) (IsStrong finding.now → ⊥) }
+    ensures { MatchBool result (IsStrongFinding finding.now) (IsStrongFinding finding.now → ⊥) }
 {
     matches!(
         finding,

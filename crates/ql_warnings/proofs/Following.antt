@@ -3,10 +3,10 @@ use Rattle.std.proofs.Common.{◌≡◌, ℕ, ◌+◌, ◌<◌, ◌≤◌, inl, 
 use Rattle.std.proofs.lemmas.Bool.{cases_lt}
 use Rattle.std.proofs.lemmas.Option.{same_Some, slice_get_past}
 use Rattle.std.specs.Option.{option_map}
-use Rattle.ql_warnings.specs.Kept.{IsNext}
+use Rattle.ql_warnings.specs.Kept.{IsLeastBetween}
 
 -- of these and those
-pub next_more : (A B C : ℕ → Type 0) (at end m next : ℕ) → ((n : ℕ) → C n → A n ⊎ B n) → ((n : ℕ) → A n → C n) → ((n : ℕ) → B n → C n) → IsNext A at end m → IsNext B at m next → IsNext C at end next
+pub next_more : (A B C : ℕ → Type 0) (at end m next : ℕ) → ((n : ℕ) → C n → A n ⊎ B n) → ((n : ℕ) → A n → C n) → ((n : ℕ) → B n → C n) → IsLeastBetween A at end m → IsLeastBetween B at m next → IsLeastBetween C at end next
 next_more A B C at end m next split left right x y = record {
   within = omega (arith, x.within, y.within);
   least = λ n is less. elim (split n is) [ inl a ↦ omega (arith, y.within, x.least n a less) | inr b ↦ y.least n b less ];
@@ -21,10 +21,10 @@ module _ {X : Type 0} (offset : X → ℕ) (xs : List X) where
   abbrev pub IsAmong : ℕ → ℕ → Type 0
   IsAmong count n = (k : ℕ) × (k < count) × (option_map offset (slice_get xs k) ≡ Some n)
 
-  pub none_among : (at end : ℕ) → IsNext (IsAmong 0) at end end
+  pub none_among : (at end : ℕ) → IsLeastBetween (IsAmong 0) at end end
   none_among at end = record { within = omega arith; least = λ n is less. absurd (omega (arith, is.1)); some = inl refl }
 
-  pub one_among : (at end m next k : ℕ) (x : X) → slice_get xs k ≡ Some x → IsNext (IsAmong k) at end m → IsNext (λ n. n ≡ offset x) at m next → IsNext (IsAmong (k + 1)) at end next
+  pub one_among : (at end m next k : ℕ) (x : X) → slice_get xs k ≡ Some x → IsLeastBetween (IsAmong k) at end m → IsLeastBetween (λ n. n ≡ offset x) at m next → IsLeastBetween (IsAmong (k + 1)) at end next
   one_among at end m next k x here before is =
       next_more (IsAmong k) (λ n. n ≡ offset x) (IsAmong (k + 1)) at end m next
       (λ n among. elim (cases_lt among.0 k) [
@@ -37,7 +37,7 @@ module _ {X : Type 0} (offset : X → ℕ) (xs : List X) where
       (λ n same. (k, omega arith, ap (option_map offset) here ∙ ap (λ j. Some j) (sym same)))
       before is
 
-  pub all_among : (at end next k : ℕ) → length xs ≤ k → IsNext (IsAmong k) at end next → IsNext (λ n. (j : ℕ) × (option_map offset (slice_get xs j) ≡ Some n)) at end next
+  pub all_among : (at end next k : ℕ) → length xs ≤ k → IsLeastBetween (IsAmong k) at end next → IsLeastBetween (λ n. (j : ℕ) × (option_map offset (slice_get xs j) ≡ Some n)) at end next
   all_among at end next k past is = record {
     within = is.within;
     least = λ n found less. is.least n (inside n found) less;

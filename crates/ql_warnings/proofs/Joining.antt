@@ -8,7 +8,7 @@ use Rattle.std.specs.Option.{MatchOption}
 use Rattle.ql_lex.specs.Tokens.{AreSpans, Lexes}
 use Rattle.ql_lex.specs.declared.token.LexFault.{LexFault}
 use Rattle.ql_lex.specs.declared.token.Token.{Token}
-use Rattle.ql_warnings.specs.Brackets.{IsJoinedTo, joined, sign_of, word_of}
+use Rattle.ql_warnings.specs.Brackets.{IsJoinedTo, first_junction, sign_of, token_word}
 use Rattle.ql_warnings.specs.Kept.{AreBracketWarnings, AreJoined, IsBracketWarning}
 use Rattle.ql_warnings.specs.Places.{IsPlaceOf, ends_line, in_line}
 use Rattle.ql_warnings.specs.Tokens.{AreTokensOf}
@@ -36,16 +36,16 @@ module _ (source : List ℕ) (start : ℕ) (tokens : List Token) (k : ℕ) where
       let later : start ≤ token.from = subst (λ (t : Token). start ≤ t.from) (same_Some is.arrow token (sym is.there ∙ here)) is.behind in
       absurd (omega arith)
 
-  pub points_not : (token : Token) → slice_get tokens k ≡ Some token → (sign_of (word_of source token) ≡ Arrow → ⊥) → (at : ℕ) → IsJoinedTo source start tokens k at → ⊥
-  points_not token here other at is = other (subst (λ (t : Token). sign_of (word_of source t) ≡ Arrow) (same_Some is.arrow token (sym is.there ∙ here)) is.is_arrow)
+  pub points_not : (token : Token) → slice_get tokens k ≡ Some token → (sign_of (token_word source token) ≡ Arrow → ⊥) → (at : ℕ) → IsJoinedTo source start tokens k at → ⊥
+  points_not token here other at is = other (subst (λ (t : Token). sign_of (token_word source t) ≡ Arrow) (same_Some is.arrow token (sym is.there ∙ here)) is.is_arrow)
 
-  pub joined_exact : (token : Token) (r : Option ℕ) → slice_get tokens k ≡ Some token → sign_of (word_of source token) ≡ Arrow → start ≤ token.from → r ≡ joined source 0 None (drop (k + 1) tokens)
+  pub joined_exact : (token : Token) (r : Option ℕ) → slice_get tokens k ≡ Some token → sign_of (token_word source token) ≡ Arrow → start ≤ token.from → r ≡ first_junction source 0 None (drop (k + 1) tokens)
       → MatchOption r ((at : ℕ) → IsJoinedTo source start tokens k at → ⊥) (IsJoinedTo source start tokens k)
   joined_exact token None here is behind found = λ at joins.
-      let none : ◌≡◌ {A = Option ℕ} None (Some at) = found ∙ ap (λ n. joined source 0 None (drop n tokens)) (add-one k) ∙ joins.joins in
+      let none : ◌≡◌ {A = Option ℕ} None (Some at) = found ∙ ap (λ n. first_junction source 0 None (drop n tokens)) (add-one k) ∙ joins.joins in
       absurd (cc)
   joined_exact token (Some at) here is behind found =
-      record { arrow = token; there = here; is_arrow = is; behind = behind; joins = sym (found ∙ ap (λ n. joined source 0 None (drop n tokens)) (add-one k)) }
+      record { arrow = token; there = here; is_arrow = is; behind = behind; joins = sym (found ∙ ap (λ n. first_junction source 0 None (drop n tokens)) (add-one k)) }
 
   -- ---- the place
 

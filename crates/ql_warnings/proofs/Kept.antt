@@ -12,10 +12,10 @@ use Rattle.ql_lang.specs.declared.program.Program.{Program}
 use Rattle.ql_ground.specs.declared.goal.Goal.{Goal}
 use Rattle.ql_ground.specs.declared.goal.Goal.TheVariants.{OpAt, TxnAt}
 use Rattle.ql_warnings.specs.Brackets.{IsUnbracketed}
-use Rattle.ql_warnings.specs.Kept.{AreBracketWarnings, AreNameWarnings, IsBracketWarning, IsNameWarning, IsNext, PremisesKept}
+use Rattle.ql_warnings.specs.Kept.{AreBracketWarnings, AreNameWarnings, IsBracketWarning, IsNameWarning, IsLeastBetween, PremisesKept}
 use Rattle.ql_warnings.specs.Places.{IsPlaceOf}
-use Rattle.ql_warnings.specs.Premises.{IsContract}
-use Rattle.ql_warnings.specs.Warnings.{AreWarnings, Declares, IsBeforeNext, IsDecided, IsNamedAs, IsOfPremise, IsOfPremises, IsTargetName, IsWarning}
+use Rattle.ql_warnings.specs.Premises.{IsTargetContract}
+use Rattle.ql_warnings.specs.Warnings.{AreWarnings, Declares, IsBeforeNext, IsSyntactic, IsNamedAs, IsOfPremise, IsOfPremises, IsTargetName, IsWarning}
 use Rattle.ql_warnings.specs.declared.warning.Place.{Place}
 use Rattle.ql_warnings.specs.declared.warning.Warning.{Warning}
 use Rattle.ql_warnings.specs.declared.warning.Warning.TheVariants.{AsksNothing, NamedAsOperation, NeverApplies, RuledOut, Unbracketed, Unneeded}
@@ -31,7 +31,7 @@ named_is source p g vars at d (RuledOut op e) h = absurd h
 pub all_named : (source : List ℕ) (p : Program) (g : Goal) (vars : List Var) (at : ℕ) (ws : List Warning) → Declares p g vars at → All (IsNameWarning p vars) ws → All (IsWarning source p g) ws
 all_named source p g vars at ws d all k w less = named_is source p g vars at d (get_or ws k w) (all k w less)
 
-module _ (source : List ℕ) (p : Program) (g : Goal) (vars : List Var) (at end : ℕ) (d : Declares p g vars at) (next : IsNext (IsTargetName p) at (length source) end) where
+module _ (source : List ℕ) (p : Program) (g : Goal) (vars : List Var) (at end : ℕ) (d : Declares p g vars at) (next : IsLeastBetween (IsTargetName p) at (length source) end) where
   bracket_is : (w : Warning) → IsBracketWarning source at end w → IsWarning source p g w
   bracket_is (Unbracketed place) h = (vars, at, d, h.0, h.1, λ n is less. omega (arith, h.2, next.least n is less))
   bracket_is (NamedAsOperation v op) h = absurd h
@@ -43,7 +43,7 @@ module _ (source : List ℕ) (p : Program) (g : Goal) (vars : List Var) (at end 
   pub all_brackets : (ws : List Warning) → All (IsBracketWarning source at end) ws → All (IsWarning source p g) ws
   all_brackets ws all k w less = bracket_is (get_or ws k w) (all k w less)
 
-premise_is : (source : List ℕ) (p : Program) (g : Goal) (f : Resolved) → IsContract p g f → (w : Warning) → IsOfPremises source p g f.vars f.body w → IsWarning source p g w
+premise_is : (source : List ℕ) (p : Program) (g : Goal) (f : Resolved) → IsTargetContract p g f → (w : Warning) → IsOfPremises source p g f.vars f.body w → IsWarning source p g w
 premise_is source p g f is (NeverApplies place) h = (f, is, h)
 premise_is source p g f is (Unneeded place) h = (f, is, h)
 premise_is source p g f is (NamedAsOperation v op) h = absurd h.2
@@ -51,7 +51,7 @@ premise_is source p g f is (Unbracketed place) h = absurd h.2
 premise_is source p g f is AsksNothing h = absurd h.2
 premise_is source p g f is (RuledOut op e) h = absurd h.2
 
-pub all_premises : (source : List ℕ) (p : Program) (g : Goal) (f : Resolved) (ws : List Warning) → IsContract p g f → All (IsOfPremises source p g f.vars f.body) ws → All (IsWarning source p g) ws
+pub all_premises : (source : List ℕ) (p : Program) (g : Goal) (f : Resolved) (ws : List Warning) → IsTargetContract p g f → All (IsOfPremises source p g f.vars f.body) ws → All (IsWarning source p g) ws
 all_premises source p g f ws is all k w less = premise_is source p g f is (get_or ws k w) (all k w less)
 
 -- ---- all of a contract
@@ -65,13 +65,13 @@ one_name_offset : (p : Program) (g : Goal) (vars others : List Var) (at other : 
 one_name_offset p (OpAt o level) vars others at other x y = same_Some at other (sym x.1 ∙ y.1)
 one_name_offset p (TxnAt n level) vars others at other x y = same_Some at other (sym x.1 ∙ y.1)
 
-module _ (source : List ℕ) (p : Program) (g : Goal) (vars : List Var) (at end : ℕ) (d : Declares p g vars at) (next : IsNext (IsTargetName p) at (length source) end)
+module _ (source : List ℕ) (p : Program) (g : Goal) (vars : List Var) (at end : ℕ) (d : Declares p g vars at) (next : IsLeastBetween (IsTargetName p) at (length source) end)
     (names brackets rest : List Warning) (named : AreNameWarnings p vars (length vars) names) (joined : AreBracketWarnings source at end brackets) where
   -- an offset before the next target's name
   before_end : (place : Place) → IsPlaceOf source place → IsBeforeNext p at place.at → place.at < end
   before_end place placed before = elim next.some [ inl same ↦ omega (arith, placed.within, same) | inr found ↦ before end found.1 found.0 ]
 
-  among : (w : Warning) → IsDecided w → IsWarning source p g w → Contains ((names ++ brackets) ++ rest) w
+  among : (w : Warning) → IsSyntactic w → IsWarning source p g w → Contains ((names ++ brackets) ++ rest) w
   among (NamedAsOperation v op) decided is =
       let here : IsNamedAs p vars v op = subst (λ (vs : List Var). IsNamedAs p vs v op) (one_vars p g is.0 vars is.1 at is.2 d) is.3 in
       Contains-append_left (names ++ brackets) rest (NamedAsOperation v op)

@@ -20,10 +20,10 @@ use Rattle.ql_exec.specs.declared.effect.Effect.{Effect}
 use Rattle.ql_exec.specs.Effects.{both, effect_at, one}
 use Rattle.ql_exec.specs.Relations.{sameobj}
 use Rattle.ql_formula.specs.Truth.{Chosen, in_range, named, place_of, statement_true}
-use Rattle.ql_warnings.specs.Clashes.{AreApart, CantHold, choice_may, is_of, may_be, same_kind}
-use Rattle.ql_warnings.specs.Known.{Gives, IsKnown, IsPartOf}
+use Rattle.ql_warnings.specs.Clashes.{HaveNoCommonType, CantHold, choice_may, is_operation_of, may_be, has_kind}
+use Rattle.ql_warnings.specs.Known.{Entails, IsKnownAt, IsPartOf}
 use Rattle.ql_warnings.specs.Names.{is_on_object, is_order, is_symmetric, is_within}
-use Rattle.ql_warnings.specs.Premises.{IsAlways, IsPart, IsScene, IsUnneeded, said}
+use Rattle.ql_warnings.specs.Premises.{IsAlways, IsPart, IsScene, IsUnneeded, known_statement}
 use Rattle.ql_warnings.specs.declared.known.Known.{Known}
 use Rattle.ql_warnings.proofs.Names.{no_order_back, on_object, within_holds}
 use Rattle.ql_warnings.proofs.Names as names
@@ -45,8 +45,8 @@ parts_true x inside places cur (formula.OneOf p q) part e h = subst (λ s. state
 parts_true x inside places cur (IfThen p q) part e h = subst (λ s. statement_true x inside places cur s ≡ true) e h
 parts_true x inside places cur (InOneTxn ms os) part e h = subst (λ s. statement_true x inside places cur s ≡ true) e h
 
-pub parts_known : (x : List Effect) (inside : ℕ → Bool) (places : List ℕ) (cur : ℕ) (s : Statement) (known : List Known) → All (IsPartOf s) known → statement_true x inside places cur s ≡ true → All (IsKnown x places cur) known
-parts_known x inside places cur s known all h = λ k d less. parts_true x inside places cur s (said (get_or known k d)) (all k d less) h
+pub parts_known : (x : List Effect) (inside : ℕ → Bool) (places : List ℕ) (cur : ℕ) (s : Statement) (known : List Known) → All (IsPartOf s) known → statement_true x inside places cur s ≡ true → All (IsKnownAt x places cur) known
+parts_known x inside places cur s known all h = λ k d less. parts_true x inside places cur s (known_statement (get_or known k d)) (all k d less) h
 
 -- a statement whose parts can't all hold
 pub never_true : (p : Program) (g : Goal) (vars : List OpChoice) (s : Statement) (known : List Known) → All (IsPartOf s) known → CantHold p g vars known → IsAlways p g vars s false
@@ -61,12 +61,12 @@ at_of (Related (Basic name at) t u) = at
 at_of s = 0
 
 -- a part that another one gives
-pub unneeded : (p : Program) (g : Goal) (vars : List OpChoice) (s : Statement) (part other : Known) → IsPartOf s part → IsPartOf s other → other.at ≢ part.at → Gives other part → IsUnneeded p g vars s part.at
+pub unneeded : (p : Program) (g : Goal) (vars : List OpChoice) (s : Statement) (part other : Known) → IsPartOf s part → IsPartOf s other → other.at ≢ part.at → Entails other part → IsUnneeded p g vars s part.at
 unneeded p g vars s part other among given differ gives = record {
   part = part;
   place = refl;
   among = among;
-  follows = λ x inside places cur scene others. gives x scene.lawful places cur (others (said other) given (λ same. differ (ap at_of same)));
+  follows = λ x inside places cur scene others. gives x scene.lawful places cur (others (known_statement other) given (λ same. differ (ap at_of same)));
 }
 
 -- ---- types
@@ -89,14 +89,14 @@ chosen_in x (c ∷ vars) (a ∷ places) (suc v) choice chosen at = chosen_in x v
 same_self : (kind : ℕ) → nat_eq kind kind ≡ true
 same_self kind = eq-eqb kind kind refl
 
-of_itself : (kinds : List ℕ) (o kind : ℕ) → slice_get kinds o ≡ Some kind → is_of kinds o kind ≡ true
-of_itself kinds o kind at = subst (λ r. same_kind r kind ≡ true) (sym at) (same_self kind)
+of_itself : (kinds : List ℕ) (o kind : ℕ) → slice_get kinds o ≡ Some kind → is_operation_of kinds o kind ≡ true
+of_itself kinds o kind at = subst (λ r. has_kind r kind ≡ true) (sym at) (same_self kind)
 
-some_of : (kinds ops : List ℕ) (o kind : ℕ) → has_id ops o ≡ true → slice_get kinds o ≡ Some kind → list_any (λ k. is_of kinds k kind) ops ≡ true
+some_of : (kinds ops : List ℕ) (o kind : ℕ) → has_id ops o ≡ true → slice_get kinds o ≡ Some kind → list_any (λ k. is_operation_of kinds k kind) ops ≡ true
 some_of kinds [] o kind has at = absurd (cc)
 some_of kinds (k ∷ ops) o kind has at = elim (or_cases (nat_eq k o) (has_id ops o) has) [
-  | inl same ↦ first (is_of kinds k kind) (list_any (λ k. is_of kinds k kind) ops) (subst (λ n. is_of kinds n kind ≡ true) (sym (eqb-true k o same)) (of_itself kinds o kind at))
-  | inr more ↦ second (is_of kinds k kind) (list_any (λ k. is_of kinds k kind) ops) (some_of kinds ops o kind more at)
+  | inl same ↦ first (is_operation_of kinds k kind) (list_any (λ k. is_operation_of kinds k kind) ops) (subst (λ n. is_operation_of kinds n kind ≡ true) (sym (eqb-true k o same)) (of_itself kinds o kind at))
+  | inr more ↦ second (is_operation_of kinds k kind) (list_any (λ k. is_operation_of kinds k kind) ops) (some_of kinds ops o kind more at)
 ]
 
 may_var : (kinds : List ℕ) (x : List Effect) (a : ℕ) (choice : Option OpChoice) (e : Effect) (kind : ℕ) → ((c : OpChoice) → choice ≡ Some c → in_range x c a ≡ true)
@@ -128,12 +128,12 @@ both_there x a b h = found (effect_at x a) (effect_at x b) refl refl h where
 
 -- a relation on one object between terms that no type is possible for
 pub apart : (p : Program) (g : Goal) (vars : List OpChoice) (known : List Known) (i : ℕ) (k : Known) → slice_get known i ≡ Some k → is_on_object k.name ≡ true
-    → AreApart (op_kinds p.types) g vars k.first k.second → CantHold p g vars known
+    → HaveNoCommonType (op_kinds p.types) g vars k.first k.second → CantHold p g vars known
 apart p g vars known i k at is none x places cur scene all =
     let kinds : List ℕ = op_kinds p.types in
     let a : ℕ = place_of places cur k.first in
     let b : ℕ = place_of places cur k.second in
-    let there = both_there x a b (on_object x scene.lawful k.name a b is (all_at (IsKnown x places cur) known i k all at)) in
+    let there = both_there x a b (on_object x scene.lawful k.name a b is (all_at (IsKnownAt x places cur) known i k all at)) in
     let e : Effect = there.0 in
     let f : Effect = there.1 in
     let at-e : effect_at x a ≡ Some e = there.2 in
@@ -149,24 +149,24 @@ pub turned : (p : Program) (g : Goal) (vars : List OpChoice) (known : List Known
     → is_order k.name ≡ true → is_order other.name ≡ true → other.first ≡ k.second → other.second ≡ k.first → CantHold p g vars known
 turned p g vars known i j k other at-k at-other is-k is-other one two x places cur scene all =
     no_order_back x scene.lawful k.name other.name (place_of places cur k.first) (place_of places cur k.second) is-k is-other
-    (all_at (IsKnown x places cur) known i k all at-k)
+    (all_at (IsKnownAt x places cur) known i k all at-k)
     (subst (λ t. named x other.name t (place_of places cur k.first) ≡ true) (ap (place_of places cur) one)
-    (subst (λ t. named x other.name (place_of places cur other.first) t ≡ true) (ap (place_of places cur) two) (all_at (IsKnown x places cur) known j other all at-other)))
+    (subst (λ t. named x other.name (place_of places cur other.first) t ≡ true) (ap (place_of places cur) two) (all_at (IsKnownAt x places cur) known j other all at-other)))
 
 -- ---- for the code
 
 -- no operation has a number past the last
-pub past_kinds : (types : List TypeDecl) (o kind : ℕ) → length (all_ops types) ≤ o → is_of (op_kinds types) o kind ≡ false
-past_kinds types o kind past = ap (λ r. same_kind r kind) (slice_get_past (op_kinds types) o (omega (arith, past, count_types types (op_kinds types) refl)))
+pub past_kinds : (types : List TypeDecl) (o kind : ℕ) → length (all_ops types) ≤ o → is_operation_of (op_kinds types) o kind ≡ false
+past_kinds types o kind past = ap (λ r. has_kind r kind) (slice_get_past (op_kinds types) o (omega (arith, past, count_types types (op_kinds types) refl)))
 
 -- what one relation gives of the same effects, and of the same ones turned
-pub same_way : (k wanted : Known) → is_within k.name wanted.name ≡ true → k.first ≡ wanted.first → k.second ≡ wanted.second → Gives k wanted
+pub same_way : (k wanted : Known) → is_within k.name wanted.name ≡ true → k.first ≡ wanted.first → k.second ≡ wanted.second → Entails k wanted
 same_way k wanted is one two x law places cur h =
     within_holds x law k.name wanted.name (place_of places cur wanted.first) (place_of places cur wanted.second) is
     (subst (λ t. named x k.name t (place_of places cur wanted.second) ≡ true) (ap (place_of places cur) one)
     (subst (λ t. named x k.name (place_of places cur k.first) t ≡ true) (ap (place_of places cur) two) h))
 
-pub other_way : (k wanted : Known) → is_within k.name wanted.name ≡ true → is_symmetric wanted.name ≡ true → k.first ≡ wanted.second → k.second ≡ wanted.first → Gives k wanted
+pub other_way : (k wanted : Known) → is_within k.name wanted.name ≡ true → is_symmetric wanted.name ≡ true → k.first ≡ wanted.second → k.second ≡ wanted.first → Entails k wanted
 other_way k wanted is both one two x law places cur h =
     names.turned x law wanted.name (place_of places cur wanted.second) (place_of places cur wanted.first) both
     (within_holds x law k.name wanted.name (place_of places cur wanted.second) (place_of places cur wanted.first) is

@@ -4,7 +4,7 @@ use Rattle.std.specs.Option.{option_map_or}
 use Rattle.std.proofs.lemmas.Option.{same_Some}
 use Rattle.ql_lex.specs.Tokens.{AreSpans}
 use Rattle.ql_lex.specs.declared.token.Token.{Token}
-use Rattle.ql_warnings.specs.Brackets.{deeper, joined, met, sign_of, reported, word_of}
+use Rattle.ql_warnings.specs.Brackets.{deeper, first_junction, met, sign_of, reported, token_word}
 use Rattle.ql_warnings.specs.declared.unbracketed.Sign.{Sign}
 
 ends_after : (at end : ℕ) (ts : List Token) → AreSpans at end ts → at ≤ end
@@ -28,18 +28,18 @@ from_one (u ∷ ts) zero t e = ap (λ v. v ∷ ts) (same_Some u t e)
 from_one (u ∷ ts) (suc k) t e = from_one ts k t e
 
 -- the search goes on, or ends
-pub goes_on : (source : List ℕ) (ts : List Token) (k : ℕ) (t : Token) (sign : Sign) (depth inside : ℕ) (found next r : Option ℕ) → slice_get ts k ≡ Some t → sign ≡ sign_of (word_of source t)
-    → Some inside ≡ deeper sign depth → next ≡ met sign depth t.from found → r ≡ joined source inside next (drop (k + 1) ts) → r ≡ joined source depth found (drop k ts)
+pub goes_on : (source : List ℕ) (ts : List Token) (k : ℕ) (t : Token) (sign : Sign) (depth inside : ℕ) (found next r : Option ℕ) → slice_get ts k ≡ Some t → sign ≡ sign_of (token_word source t)
+    → Some inside ≡ deeper sign depth → next ≡ met sign depth t.from found → r ≡ first_junction source inside next (drop (k + 1) ts) → r ≡ first_junction source depth found (drop k ts)
 goes_on source ts k t sign depth inside found next r at is deep on same =
-    same ∙ ap (λ m. joined source inside next (drop m ts)) (add-one k) ∙ ap (λ n. joined source inside n (drop (suc k) ts)) on
-    ∙ ap (λ o. option_map_or (λ d. joined source d (met sign depth t.from found) (drop (suc k) ts)) o (reported sign found)) deep
-    ∙ ap (λ s. option_map_or (λ d. joined source d (met s depth t.from found) (drop (suc k) ts)) (deeper s depth) (reported s found)) is
-    ∙ sym (ap (joined source depth found) (from_one ts k t at))
+    same ∙ ap (λ m. first_junction source inside next (drop m ts)) (add-one k) ∙ ap (λ n. first_junction source inside n (drop (suc k) ts)) on
+    ∙ ap (λ o. option_map_or (λ d. first_junction source d (met sign depth t.from found) (drop (suc k) ts)) o (reported sign found)) deep
+    ∙ ap (λ s. option_map_or (λ d. first_junction source d (met s depth t.from found) (drop (suc k) ts)) (deeper s depth) (reported s found)) is
+    ∙ sym (ap (first_junction source depth found) (from_one ts k t at))
 
-pub ends : (source : List ℕ) (ts : List Token) (k : ℕ) (t : Token) (sign : Sign) (depth : ℕ) (found r : Option ℕ) → slice_get ts k ≡ Some t → sign ≡ sign_of (word_of source t)
-    → None ≡ deeper sign depth → r ≡ reported sign found → r ≡ joined source depth found (drop k ts)
+pub ends : (source : List ℕ) (ts : List Token) (k : ℕ) (t : Token) (sign : Sign) (depth : ℕ) (found r : Option ℕ) → slice_get ts k ≡ Some t → sign ≡ sign_of (token_word source t)
+    → None ≡ deeper sign depth → r ≡ reported sign found → r ≡ first_junction source depth found (drop k ts)
 ends source ts k t sign depth found r at is deep same =
     same
-    ∙ ap (λ o. option_map_or (λ d. joined source d (met sign depth t.from found) (drop (suc k) ts)) o (reported sign found)) deep
-    ∙ ap (λ s. option_map_or (λ d. joined source d (met s depth t.from found) (drop (suc k) ts)) (deeper s depth) (reported s found)) is
-    ∙ sym (ap (joined source depth found) (from_one ts k t at))
+    ∙ ap (λ o. option_map_or (λ d. first_junction source d (met sign depth t.from found) (drop (suc k) ts)) o (reported sign found)) deep
+    ∙ ap (λ s. option_map_or (λ d. first_junction source d (met s depth t.from found) (drop (suc k) ts)) (deeper s depth) (reported s found)) is
+    ∙ sym (ap (first_junction source depth found) (from_one ts k t at))

@@ -1,7 +1,6 @@
 -- What facts mean in an execution.
-use Rattle.std.specs.Prelude.{ℕ, ◌≡◌, Bool, List, map}
+use Rattle.std.specs.Prelude.{ℕ, ◌≡◌, Bool, List}
 use Rattle.std.specs.List.{All}
-use Rattle.ql_base.specs.declared.ids.EffId.{EffId}
 use Rattle.ql_counter.specs.declared.counter.At.{At}
 use Rattle.ql_counter.specs.declared.counter.At.TheVariants as at
 use Rattle.ql_exec.specs.declared.effect.Effect.{Effect}
@@ -12,16 +11,13 @@ use Rattle.ql_warnings.specs.declared.fact.Claim.TheVariants.{Related, Inside, O
 use Rattle.ql_warnings.specs.declared.fact.Fact.{Fact}
 
 -- the current effect, and the effects of the current transaction
-abbrev pub cur_of : At → ℕ
-cur_of (at.Effect id) = id.0
-cur_of (at.Run run) = 0
+abbrev pub current_at : At → ℕ
+current_at (at.Effect id) = id.0
+current_at (at.Run run) = 0
 
-abbrev pub inside_of : List Effect → At → ℕ → Bool
-inside_of x (at.Effect id) = none_inside
-inside_of x (at.Run run) = inside x run.0
-
-abbrev pub numbers : List EffId → List ℕ
-numbers ids = map (λ (id : EffId). id.0) ids
+abbrev pub inside_at : List Effect → At → ℕ → Bool
+inside_at x (at.Effect id) = none_inside
+inside_at x (at.Run run) = inside x run.0
 
 abbrev pub claim_true : List Effect → (ℕ → Bool) → Claim → Bool
 claim_true x current (Related name a b) = named x name a.0 b.0
@@ -30,7 +26,7 @@ claim_true x current (OneTxn a b) = sametxn x a.0 b.0
 
 -- the fact is true of an execution in which the contract is judged here
 abbrev pub IsTrueOf : List Effect → At → Fact → Type 0
-IsTrueOf x here fact = claim_true x (inside_of x here) fact.claim ≡ fact.holds
+IsTrueOf x here fact = claim_true x (inside_at x here) fact.claim ≡ fact.holds
 
 -- the new facts are true if the old ones are
 abbrev pub KeepsTrue : List Effect → At → List Fact → List Fact → Type 0

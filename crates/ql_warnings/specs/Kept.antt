@@ -57,7 +57,7 @@ pub record AreJoined (source : List ℕ) (start end : ℕ) (tokens : List Token)
 -- ---- where the next target begins
 
 -- the least of some offsets after `at` and before `end`, or `end`
-pub record IsNext (Is : ℕ → Type 0) (at end next : ℕ) : Type 0 where
+pub record IsLeastBetween (Is : ℕ → Type 0) (at end next : ℕ) : Type 0 where
   pub within : next ≤ end
   pub least : (n : ℕ) → Is n → at < n → next ≤ n
   pub some : (next ≡ end) ⊎ ((at < next) × Is next)

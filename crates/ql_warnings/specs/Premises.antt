@@ -15,9 +15,9 @@ use Rattle.ql_implication.specs.Executions.{FitsProgram}
 use Rattle.ql_warnings.specs.declared.known.Known.{Known}
 
 -- the contract of a target
-abbrev pub IsContract : Program → Goal → Resolved → Type 0
-IsContract p (OpAt o level) f = slice_get (op_contracts p.types) o.0 ≡ Some f
-IsContract p (TxnAt d level) f = slice_get (txn_contracts p) d.0 ≡ Some f
+abbrev pub IsTargetContract : Program → Goal → Resolved → Type 0
+IsTargetContract p (OpAt o level) f = slice_get (op_contracts p.types) o.0 ≡ Some f
+IsTargetContract p (TxnAt d level) f = slice_get (txn_contracts p) d.0 ≡ Some f
 
 -- an operation's contract is about an effect of it, a transaction's about none
 abbrev pub IsCurrent : Goal → List Effect → ℕ → Type 0
@@ -54,8 +54,8 @@ IsPart (BothOf p q) s = IsPart p s ⊎ IsPart q s
 IsPart p s = p ≡ s
 
 -- a relation as a statement, named at its offset in the source
-abbrev pub said : Known → Statement
-said k = Related (Basic k.name k.at) k.first k.second
+abbrev pub known_statement : Known → Statement
+known_statement k = Related (Basic k.name k.at) k.first k.second
 
 -- each part except this one is true
 abbrev pub OthersTrue : List Effect → (ℕ → Bool) → List ℕ → ℕ → Statement → Statement → Type 0
@@ -66,7 +66,7 @@ OthersTrue x inside places cur premise part = (s : Statement) → IsPart premise
 -- the contract isn't `true`, and is always true
 pub record AsksNothing (p : Program) (g : Goal) : Type 0 where
   pub contract : Resolved
-  pub is : IsContract p g contract
+  pub is : IsTargetContract p g contract
   pub other : contract.body ≢ Always
   pub always : IsAlways p g contract.vars contract.body true
 
@@ -74,12 +74,12 @@ pub record AsksNothing (p : Program) (g : Goal) : Type 0 where
 pub record IsNever (p : Program) (g : Goal) (vars : List OpChoice) (premise : Statement) (at : ℕ) : Type 0 where
   pub part : Known
   pub place : part.at ≡ at
-  pub among : IsPart premise (said part)
+  pub among : IsPart premise (known_statement part)
   pub never : IsAlways p g vars premise false
 
 -- the relation at this offset is true wherever all other parts of the premise are
 pub record IsUnneeded (p : Program) (g : Goal) (vars : List OpChoice) (premise : Statement) (at : ℕ) : Type 0 where
   pub part : Known
   pub place : part.at ≡ at
-  pub among : IsPart premise (said part)
-  pub follows : (x : List Effect) (inside : ℕ → Bool) (places : List ℕ) (cur : ℕ) → IsScene p g vars x places cur → OthersTrue x inside places cur premise (said part) → statement_true x inside places cur (said part) ≡ true
+  pub among : IsPart premise (known_statement part)
+  pub follows : (x : List Effect) (inside : ℕ → Bool) (places : List ℕ) (cur : ℕ) → IsScene p g vars x places cur → OthersTrue x inside places cur premise (known_statement part) → statement_true x inside places cur (known_statement part) ≡ true

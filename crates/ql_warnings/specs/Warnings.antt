@@ -23,7 +23,7 @@ use Rattle.ql_classify.specs.declared.finding.Finding.{Finding}
 use Rattle.ql_classify.specs.declared.finding.Finding.TheVariants.{Least, NoLevel}
 use Rattle.ql_warnings.specs.Brackets.{IsUnbracketed}
 use Rattle.ql_warnings.specs.Places.{IsPlaceOf}
-use Rattle.ql_warnings.specs.Premises.{AsksNothing, IsContract, IsNever, IsPremise, IsUnneeded}
+use Rattle.ql_warnings.specs.Premises.{AsksNothing, IsTargetContract, IsNever, IsPremise, IsUnneeded}
 use Rattle.ql_warnings.specs.declared.warning.Warning.{Warning}
 use Rattle.ql_warnings.specs.declared.warning.Warning.TheVariants as warning
 
@@ -76,21 +76,21 @@ abbrev pub IsWarning : List ℕ → Program → Goal → Warning → Type 0
 IsWarning source p g (warning.NamedAsOperation v op) = (vars : List Var) × (at : ℕ) × Declares p g vars at × IsNamedAs p vars v op
 IsWarning source p g (warning.Unbracketed place) = (vars : List Var) × (at : ℕ) × Declares p g vars at × IsPlaceOf source place × IsUnbracketed source at place.at × IsBeforeNext p at place.at
 IsWarning source p g warning.AsksNothing = AsksNothing p g
-IsWarning source p g (warning.NeverApplies place) = (f : Resolved) × IsContract p g f × IsOfPremises source p g f.vars f.body (warning.NeverApplies place)
-IsWarning source p g (warning.Unneeded place) = (f : Resolved) × IsContract p g f × IsOfPremises source p g f.vars f.body (warning.Unneeded place)
+IsWarning source p g (warning.NeverApplies place) = (f : Resolved) × IsTargetContract p g f × IsOfPremises source p g f.vars f.body (warning.NeverApplies place)
+IsWarning source p g (warning.Unneeded place) = (f : Resolved) × IsTargetContract p g f × IsOfPremises source p g f.vars f.body (warning.Unneeded place)
 IsWarning source p g (warning.RuledOut op at) = ⊥
 
 -- the warning is decided by names, or by the source's tokens
-abbrev pub IsDecided : Warning → Type 0
-IsDecided (warning.NamedAsOperation v op) = Unit {0}
-IsDecided (warning.Unbracketed place) = Unit {0}
-IsDecided _ = ⊥
+abbrev pub IsSyntactic : Warning → Type 0
+IsSyntactic (warning.NamedAsOperation v op) = Unit {0}
+IsSyntactic (warning.Unbracketed place) = Unit {0}
+IsSyntactic _ = ⊥
 
 -- Warnings of a target's contract: each is true, and where names or tokens decide a warning, it is there whenever it is
 -- true.
 pub record AreWarnings (source : List ℕ) (p : Program) (g : Goal) (ws : List Warning) : Type 0 where
   pub sound : All (IsWarning source p g) ws
-  pub complete : (w : Warning) → IsDecided w → IsWarning source p g w → Contains ws w
+  pub complete : (w : Warning) → IsSyntactic w → IsWarning source p g w → Contains ws w
 
 -- ---- the execution that is shown
 

@@ -4,8 +4,8 @@ ghost use Rattle.std.specs.List.{All};
 ghost use Rattle.ql_exec.specs.declared.effect.Effect.{Effect};
 ghost use Rattle.ql_exec.specs.Execution.{IsExecution};
 ghost use Rattle.ql_lang.specs.Formulas.{statement_of};
-ghost use Rattle.ql_warnings.specs.Clashes.{IsGiven};
-ghost use Rattle.ql_warnings.specs.Known.{IsKnown, PartsKept};
+ghost use Rattle.ql_warnings.specs.Clashes.{AllEntail};
+ghost use Rattle.ql_warnings.specs.Known.{IsKnownAt, PartsKept};
 
 use crate::clash::{Scene, has_clash};
 use crate::known::{Known, gives, push_known};
@@ -23,7 +23,7 @@ pub(crate) fn is_given(
 ) -> Result<bool, NoMemory>
     ensures { IfOk result
         (λ given. given ≡ true
-        → IsGiven scene.entry.program.now.program scene.entry.goal scene.entry.vars.now
+        → AllEntail scene.entry.program.now.program scene.entry.goal scene.entry.vars.now
         known.now (statement_of body.now)) }
 {
     match body {
@@ -73,7 +73,7 @@ pub(crate) fn with_parts(
 // Whether one of the relations implies another.
 fn is_known(known: &[Known], wanted: Known) -> bool
     ensures { result ≡ true → (x : List Effect) → IsExecution x → (places : List ℕ) (cur : ℕ)
-        → All (IsKnown x places cur) known.now → IsKnown x places cur wanted }
+        → All (IsKnownAt x places cur) known.now → IsKnownAt x places cur wanted }
 {
     for k in 0..known.len() {
         if gives(known[k], wanted) {

@@ -6,7 +6,8 @@ ghost use Rattle.ql_exec.specs.Relations.{sametxn};
 ghost use Rattle.ql_formula.specs.Tables.{IsTableOf};
 ghost use Rattle.ql_formula.specs.Truth.{place_of};
 ghost use Rattle.ql_lang.specs.declared.formula.Term.TheVariants.{Var};
-ghost use Rattle.ql_warnings.specs.Facts.{claim_true, cur_of, inside_of, numbers};
+ghost use Rattle.ql_counter.specs.Countermodels.{numbers};
+ghost use Rattle.ql_warnings.specs.Facts.{claim_true, current_at, inside_at};
 
 use crate::fact::Claim;
 use ql_base::EffId;
@@ -28,7 +29,7 @@ pub(crate) struct Scene<'a> {
 pub(crate) fn holds(scene: Scene, claim: Claim) -> bool
     requires { IsTableOf scene.relations.now scene.execution.now }
     ensures { result ≡ claim_true scene.entry.execution.now
-        (inside_of scene.entry.execution.now scene.entry.at) claim }
+        (inside_at scene.entry.execution.now scene.entry.at) claim }
 {
     let effects = scene.execution.effects();
     match claim {
@@ -42,7 +43,7 @@ pub(crate) fn holds(scene: Scene, claim: Claim) -> bool
 
 /// The effect that a term stands for.
 pub(crate) fn place_of(scene: Scene, term: Term) -> EffId
-    ensures { result.0 ≡ place_of (numbers scene.entry.places.now) (cur_of scene.entry.at) term }
+    ensures { result.0 ≡ place_of (numbers scene.entry.places.now) (current_at scene.entry.at) term }
 {
     match term {
         Term::Cur => cur_of(scene.at),
@@ -51,7 +52,7 @@ pub(crate) fn place_of(scene: Scene, term: Term) -> EffId
 }
 
 fn cur_of(at: At) -> EffId
-    ensures { result.0 ≡ cur_of at }
+    ensures { result.0 ≡ current_at at }
 {
     match at {
         At::Effect(id) => id,
@@ -69,7 +70,7 @@ fn place_at(places: &[EffId], k: usize) -> EffId
 }
 
 fn is_inside(effects: &[Effect], at: At, id: EffId) -> bool
-    ensures { result ≡ inside_of effects.now at id.0 }
+    ensures { result ≡ inside_at effects.now at id.0 }
 {
     match (at, effect(effects, id)) {
         (At::Run(run), Some(effect)) => effect.member.is_in(run),

@@ -2,7 +2,7 @@
 ghost use Rattle.std.specs.Prelude.{◌≡◌, ◌<◌, ℕ, IfSome, Some, length, option_copied, slice_get, true};
 ghost use Rattle.std.specs.List.{list_any};
 ghost use Rattle.ql_typing.specs.Operations.{op_kinds};
-ghost use Rattle.ql_warnings.specs.Clashes.{AreApart, CantHold, choice_may, is_of, may_be};
+ghost use Rattle.ql_warnings.specs.Clashes.{HaveNoCommonType, CantHold, choice_may, is_operation_of, may_be};
 ghost use Rattle.ql_warnings.specs.Names.{is_on_object, is_order};
 
 use crate::known::{Known, is_on_object, is_order, is_turned};
@@ -59,7 +59,7 @@ pub(crate) fn known_at(known: &[Known], k: usize) -> Known
 // Whether a relation puts effects on one object, though no type is possible for that object.
 fn is_of_two_types(scene: Scene, known: Known) -> bool
     ensures { result ≡ true → (is_on_object known.name ≡ true)
-        × AreApart (op_kinds scene.entry.program.now.program.types) scene.entry.goal
+        × HaveNoCommonType (op_kinds scene.entry.program.now.program.types) scene.entry.goal
         scene.entry.vars.now known.first known.second }
 {
     is_on_object(known.name) && are_apart(scene, known.first, known.second)
@@ -87,7 +87,7 @@ fn has_turned(known: &[Known], relation: Known) -> bool
 // Whether no type is possible for two terms.
 fn are_apart(scene: Scene, first: Term, second: Term) -> bool
     ensures { result ≡ true
-        → AreApart (op_kinds scene.entry.program.now.program.types) scene.entry.goal
+        → HaveNoCommonType (op_kinds scene.entry.program.now.program.types) scene.entry.goal
         scene.entry.vars.now first second }
 {
     for o in 0..scene.program.ops() {
@@ -122,7 +122,7 @@ fn choice_may(t: &Typed, choice: Option<&OpChoice>, kind: TypeId) -> bool
 }
 
 fn one_may(t: &Typed, ops: &[u32], kind: TypeId) -> bool
-    ensures { result ≡ list_any (λ o. is_of (op_kinds t.now.program.types) o kind.0) ops.now }
+    ensures { result ≡ list_any (λ o. is_operation_of (op_kinds t.now.program.types) o kind.0) ops.now }
 {
     ops.iter().any(|o| is_of(t, *o, kind))
 }
@@ -130,7 +130,7 @@ fn one_may(t: &Typed, ops: &[u32], kind: TypeId) -> bool
 // Whether there is an operation with this number, of this type.
 #[tactic(auto, using(crate::proofs::Scenes::past_kinds))]
 fn is_of(t: &Typed, o: u32, kind: TypeId) -> bool
-    ensures { result ≡ is_of (op_kinds t.now.program.types) o kind.0 }
+    ensures { result ≡ is_operation_of (op_kinds t.now.program.types) o kind.0 }
 {
     o < t.ops() && t.kind_of(OpId(o)).0 == kind.0
 }

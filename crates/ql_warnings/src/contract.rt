@@ -3,7 +3,7 @@ ghost use Rattle.std.specs.Prelude.{◌≡◌, ◌≢◌, ◌<◌, ◌^◌, ℕ,
 ghost use Rattle.std.specs.List.{All};
 ghost use Rattle.ql_lang.specs.Formulas.{Always, resolved_of, statement_of};
 ghost use Rattle.ql_ground.specs.OfPrograms.{IsGoalOf};
-ghost use Rattle.ql_warnings.specs.Premises.{AsksNothing, IsContract};
+ghost use Rattle.ql_warnings.specs.Premises.{AsksNothing, IsTargetContract};
 ghost use Rattle.ql_warnings.specs.Warnings.{AreWarnings, Declares, IsWarning};
 
 use crate::always::is_given;
@@ -126,7 +126,7 @@ fn is_true(body: &Body) -> bool
 /// The formula of a goal's contract.
 pub fn formula_of(t: &Typed, g: Goal) -> &Formula
     requires { IsGoalOf t.now.program g }
-    ensures { IsContract t.now.program g (resolved_of result.now) }
+    ensures { IsTargetContract t.now.program g (resolved_of result.now) }
 {
     match g {
         Goal::OpAt(o, _) => t.op_formula(o),

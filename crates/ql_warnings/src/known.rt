@@ -2,7 +2,7 @@
 ghost use Rattle.std.specs.Prelude.{◌≡◌, OnOk, true};
 ghost use Rattle.ql_lang.specs.Formulas.{statement_of};
 ghost use Rattle.ql_warnings.specs.Names.{is_on_object, is_order, is_symmetric, is_within};
-ghost use Rattle.ql_warnings.specs.Known.{Gives, PartsKept};
+ghost use Rattle.ql_warnings.specs.Known.{Entails, PartsKept};
 
 use ql_base::NoMemory;
 use ql_lang::{Body, Rel, RelName, Term};
@@ -40,7 +40,7 @@ pub(crate) fn push_known(known: &mut Vec<Known>, body: &Body) -> Result<(), NoMe
 
 /// Whether a relation holds wherever another one does.
 pub(crate) fn gives(known: Known, wanted: Known) -> bool
-    ensures { result ≡ true → Gives known wanted }
+    ensures { result ≡ true → Entails known wanted }
 {
     if !is_within(known.name, wanted.name) {
         return false;

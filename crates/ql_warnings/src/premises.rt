@@ -2,7 +2,7 @@
 ghost use Rattle.std.specs.Prelude.{◌≡◌, ◌≢◌, ◌<◌, ◌^◌, ℕ, IfOk, List, OnOk, Some, length, slice_get, true};
 ghost use Rattle.std.specs.List.{All};
 ghost use Rattle.ql_lang.specs.Formulas.{Statement, statement_of};
-ghost use Rattle.ql_warnings.specs.Known.{Gives, IsPartOf};
+ghost use Rattle.ql_warnings.specs.Known.{Entails, IsPartOf};
 ghost use Rattle.ql_warnings.specs.Kept.{PremiseKept, PremisesKept};
 ghost use Rattle.ql_warnings.specs.Warnings.{IsOfPremise, IsOfPremises};
 ghost use Rattle.ql_lang.specs.declared.formula.OpChoice.{OpChoice};
@@ -148,7 +148,7 @@ fn push_place(found: &mut Vec<Warning>, source: &[u8], part: Known) -> Result<()
 // Whether another relation implies this one. Of two that imply each other, it is the later one.
 fn is_unneeded(known: &[Known], part: Known) -> bool
     ensures { result ≡ true → (k : ℕ) × (other : Known) × (slice_get known.now k ≡ Some other)
-        × (other.at ≢ part.at) × Gives other part }
+        × (other.at ≢ part.at) × Entails other part }
 {
     for k in 0..known.len() {
         let other = known[k];

@@ -7,7 +7,7 @@ ghost use Rattle.ql_warnings.specs.Places.{IsPlaceOf};
 ghost use Rattle.ql_warnings.specs.declared.unbracketed.Sign.TheVariants.{Arrow};
 ghost use Rattle.ql_warnings.specs.declared.warning.Place.{Place};
 ghost use Rattle.std.specs.Str.{bytes_eq};
-ghost use Rattle.ql_warnings.specs.Brackets.{IsJoinedTo, closes, deeper, joined, joins, met, opens, sign_of, reported, word_of};
+ghost use Rattle.ql_warnings.specs.Brackets.{IsJoinedTo, closes_bracket, deeper, first_junction, joins, met, opens, sign_of, reported, token_word};
 
 use crate::lexed::Lexed;
 use crate::place::place_in;
@@ -52,7 +52,7 @@ fn opens(word: &[u8]) -> bool
 }
 
 fn closes(word: &[u8]) -> bool
-    ensures { result ≡ closes word.now }
+    ensures { result ≡ closes_bracket word.now }
 {
     word == b")".as_slice() || word == b"]".as_slice() || word == b"}".as_slice()
 }
@@ -188,7 +188,7 @@ fn joined(
 ) -> Option<u32>
     requires spans { AreSpans 0 (length source.now) tokens.now }
     requires depth { depth ≤ k }
-    ensures { result ≡ joined source.now depth found (drop k tokens.now) }
+    ensures { result ≡ first_junction source.now depth found (drop k tokens.now) }
 {
     if tokens.len() <= k {
         return None;
@@ -213,7 +213,7 @@ fn points(sign: Sign) -> bool
 fn sign_at(source: &[u8], token: Token) -> Sign
     requires order { token.from ≤ token.to }
     requires within { token.to ≤ length source.now }
-    ensures { result ≡ sign_of (word_of source.now token) }
+    ensures { result ≡ sign_of (token_word source.now token) }
 {
     sign_of(word_of(source, token))
 }
@@ -221,7 +221,7 @@ fn sign_at(source: &[u8], token: Token) -> Sign
 fn word_of(source: &[u8], token: Token) -> &[u8]
     requires order { token.from ≤ token.to }
     requires within { token.to ≤ length source.now }
-    ensures { result.now ≡ word_of source.now token }
+    ensures { result.now ≡ token_word source.now token }
 {
     &source[token.from as usize..token.to as usize]
 }

@@ -1,6 +1,6 @@
 // Warnings as sentences.
 ghost use Rattle.std.specs.Prelude.{◌≡◌, IfOk};
-ghost use Rattle.ql_warnings.specs.Texts.{name_in, named_text, placed, ruled_out_text, warning_text, warning_word};
+ghost use Rattle.ql_warnings.specs.Texts.{name_of_operation, named_as_operation_text, placed, ruled_out_text, warning_text, warning_word};
 
 use crate::warning::{Place, Warning};
 use ql_base::{NoMemory, OpId, push_bytes, push_number};
@@ -47,7 +47,7 @@ const NEVER: &[u8] =
 const UNNEEDED: &[u8] = b"isn't needed: it holds wherever the rest before its `=>` does.";
 
 fn name_in(t: &Typed, op: OpId) -> &[u8]
-    ensures { result.now ≡ name_in t.now.program op.0 }
+    ensures { result.now ≡ name_of_operation t.now.program op.0 }
 {
     if op.0 < t.ops() {
         t.op(op).name.word.bytes()
@@ -70,7 +70,7 @@ fn placed(alloc: Global, place: Place, said: &[u8]) -> Result<Vec<u8>, NoMemory>
 }
 
 fn named_text(alloc: Global, name: &[u8]) -> Result<Vec<u8>, NoMemory>
-    ensures { IfOk result (λ text. text.items ≡ named_text name.now) }
+    ensures { IfOk result (λ text. text.items ≡ named_as_operation_text name.now) }
 {
     let mut text = Vec::from_slice(alloc, b"The variable ")?;
     push_bytes(&mut text, name)?;

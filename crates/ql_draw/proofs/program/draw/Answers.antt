@@ -1,5 +1,5 @@
-use Rattle.ql_draw.specs.Outcomes.{Says}
-use Rattle.ql_draw.specs.Words.{asked}
+use Rattle.ql_draw.specs.Outcomes.{SaysPicture}
+use Rattle.ql_draw.specs.Words.{picture_asked}
 use Rattle.ql_reply.specs.Arguments.{word_texts}
 use Rattle.ql_draw.proofs.Writing.{never}
 use Rattle.ql_reply.proofs.Replies.{wrote}
@@ -12,5 +12,5 @@ returns-clause-wrote g c =
     let after = g.S.Shelf.faults c.outcome.new.shelf in
     let words = word_texts c.args.words.now in
     let text = c.in_ok-reply.reply.text.items in
-    wrote (Says words held before after) (g.K.Sink.written c.args.sink.now) (g.K.Sink.written c.write_reply.new.sink) (g.K.Sink.faults c.args.sink.now) (g.K.Sink.faults c.write_reply.new.sink)
-    c.in_ok-reply.reply.status c.write_reply.result text (never held before after (asked words) text) c.in_ok-reply.ensures.says (rw c.deref.ensures.value at c.write_reply.ensures.written)
+    wrote (SaysPicture words held before after) (g.K.Sink.written c.args.sink.now) (g.K.Sink.written c.write_reply.new.sink) (g.K.Sink.faults c.args.sink.now) (g.K.Sink.faults c.write_reply.new.sink)
+    c.in_ok-reply.reply.status c.write_reply.result text (never held before after (picture_asked words) text) c.in_ok-reply.ensures.says (rw c.deref.ensures.value at c.write_reply.ensures.written)

@@ -1,6 +1,6 @@
 use Rattle.std.proofs.Common.{map, subst, sym}
 use Rattle.serde_json.specs.View.{view}
-use Rattle.ql_explanation.specs.Explanation.{AreFindings}
+use Rattle.ql_warnings.specs.Warnings.{AreFindings}
 use Rattle.ql_explanation.proofs.Judged.{explained}
 use Rattle.ql_explain.proofs.Floats.{targets_none}
 use Rattle.ql_commands.proofs.SourceReplies.{bad_said}

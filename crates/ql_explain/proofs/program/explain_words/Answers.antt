@@ -1,5 +1,5 @@
-use Rattle.ql_explain.specs.Outcomes.{Says}
-use Rattle.ql_explain.specs.Words.{asked}
+use Rattle.ql_explain.specs.Outcomes.{SaysInquiry}
+use Rattle.ql_explain.specs.Words.{inquiry}
 use Rattle.ql_reply.specs.Arguments.{word_texts}
 use Rattle.ql_explain.proofs.Report.{never}
 use Rattle.ql_reply.proofs.Replies.{wrote}
@@ -12,5 +12,5 @@ returns-clause-wrote g c =
     let after = g.S.Shelf.faults c.outcome.new.shelf in
     let words = word_texts c.args.words.now in
     let text = c.in_ok-answered.answered.reply.text.items in
-    wrote (Says words held before after) (g.K.Sink.written c.args.sink.now) (g.K.Sink.written c.write_reply-status.new.sink) (g.K.Sink.faults c.args.sink.now) (g.K.Sink.faults c.write_reply-status.new.sink)
-    c.in_ok-answered.answered.reply.status c.write_reply-status.result text (never held before after (asked words) text) c.in_ok-answered.ensures.says (rw c.deref.ensures.value at c.write_reply-status.ensures.written)
+    wrote (SaysInquiry words held before after) (g.K.Sink.written c.args.sink.now) (g.K.Sink.written c.write_reply-status.new.sink) (g.K.Sink.faults c.args.sink.now) (g.K.Sink.faults c.write_reply-status.new.sink)
+    c.in_ok-answered.answered.reply.status c.write_reply-status.result text (never held before after (inquiry words) text) c.in_ok-answered.ensures.says (rw c.deref.ensures.value at c.write_reply-status.ensures.written)

@@ -1,6 +1,7 @@
 use Rattle.std.proofs.Common.{subst, sym}
 use Rattle.ql_commands.proofs.SourceReplies.{bad_said}
-use Rattle.ql_explanation.specs.Explanation.{AreFindings, ExplainSays, IsExplanation}
+use Rattle.ql_warnings.specs.Warnings.{AreFindings}
+use Rattle.ql_explanation.specs.Explanation.{ExplainSays, IsExplanation}
 use Rattle.ql_explanation.proofs.Judged.{explained}
 use Rattle.ql_explanation.proofs.explanation.explain.Goals as goal
 

@@ -1,7 +1,7 @@
 use Rattle.std.proofs.Common.{subst, sym}
 use Rattle.ql_ground.specs.OfPrograms.{IsGoalOf}
 use Rattle.ql_warnings.specs.Warnings.{AreWarnings}
-use Rattle.ql_explanation.specs.Explanation.{IsSection}
+use Rattle.ql_explanation.specs.Explanation.{IsTargetSection}
 use Rattle.ql_explanation.proofs.Known.{goal_known}
 use Rattle.ql_explanation.proofs.Texts.{appended_ok}
 use Rattle.ql_explanation.proofs.explanation.push_section.Goals as goal
@@ -17,7 +17,7 @@ warnings-requires c = subst (IsGoalOf c.args.t.now.program) (sym c.goal_of-goal.
 
 pub returns : goal.returns
 returns c =
-    appended_ok (IsSection c.args.lexed.now c.args.t.now.program c.args.finding.now) c.args.text.now.items c.push_bytes.new.out.items c.deref-3.result.now c.push_bytes.result
-    (subst (IsSection c.args.lexed.now c.args.t.now.program c.args.finding.now) (sym c.deref-3.ensures.value)
+    appended_ok (IsTargetSection c.args.lexed.now c.args.t.now.program c.args.finding.now) c.args.text.now.items c.push_bytes.new.out.items c.deref-3.result.now c.push_bytes.result
+    (subst (IsTargetSection c.args.lexed.now c.args.t.now.program c.args.finding.now) (sym c.deref-3.ensures.value)
     (c.in_ok-section.ensures c.args.lexed.now (subst (AreWarnings c.args.lexed.now c.args.t.now.program c.goal_of-goal.result) (sym c.deref-2.ensures.value) c.in_ok-warned.ensures)))
     c.push_bytes.ensures.ok
