@@ -1,5 +1,5 @@
 use Rattle.std.proofs.lemmas.Result.{err_from_is_err_and}
-use Rattle.ql_run_json.proofs.execution.member.Goals as goal
+use Rattle.ql_report.proofs.json_execution.member.Goals as goal
 
 pub returns-in_err-list-in-Inside : goal.returns-in_err-list-in-Inside
 returns-in_err-list-in-Inside c = let p = err_from_is_err_and c.from_residual.result c.from_residual.ensures.1 in rw p.1 tt

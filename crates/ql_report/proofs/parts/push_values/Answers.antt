@@ -1,5 +1,5 @@
 use Rattle.std.proofs.lemmas.Result.{err_from_is_err_and}
-use Rattle.ql_run_text.proofs.parts.push_values.Goals as goal
+use Rattle.ql_report.proofs.parts.push_values.Goals as goal
 
 pub returns-in_err-print_value-clause-text : goal.returns-in_err-print_value-clause-text
 returns-in_err-print_value-clause-text c = let p = err_from_is_err_and c.from_residual-in_err-print_value.result c.from_residual-in_err-print_value.ensures.1 in rw p.1 tt
