@@ -3,7 +3,7 @@ use Rattle.std.proofs.Common.{◌≡◌, inl, ℕ, Option, Some, None, ◌<◌, 
 use Rattle.std.specs.List.{AllByRecursion}
 use Rattle.std.specs.Option.{option_map}
 use Rattle.ql_lines.specs.Fields.{Fields}
-use Rattle.ql_cert.specs.Readings.{IsRead}
+use Rattle.ql_cert.specs.Readings.{IsReadField}
 use Rattle.ql_cnf.specs.declared.lit.Lit.{Lit}
 use Rattle.ql_lines.proofs.Conses.{both, heads, tails}
 use Rattle.ql_cert.specs.OneField.{no_colon, no_number, one_literal}
@@ -42,15 +42,15 @@ positive_none field unsigned none v true f e = none v f e
 positive_none field unsigned none v false f e = unsigned (decimal v) (sym e)
 
 -- a literal with a sign is read from the digits after it
-pub negative_read : (field digits : List ℕ) (n : Option ℕ) → field ≡ 45 ∷ digits → IsRead (λ v. (1 ≤ v) × (v < 2 ^ 32)) decimal digits n
-    → IsRead IsLit lit_field field (option_map (λ v. record { var = v; positive = false }) n)
+pub negative_read : (field digits : List ℕ) (n : Option ℕ) → field ≡ 45 ∷ digits → IsReadField (λ v. (1 ≤ v) × (v < 2 ^ 32)) decimal digits n
+    → IsReadField IsLit lit_field field (option_map (λ v. record { var = v; positive = false }) n)
 unfolding signed_field
 negative_read field digits (Some n) is h = (h.0, ap (λ (l : List ℕ). 45 ∷ l) h.1 ∙ sym is)
 negative_read field digits None is h = λ x fits e. negative_none digits h x.var x.positive fits (e ∙ is)
 
 -- and one without from all of it
-pub positive_read : (field : List ℕ) (n : Option ℕ) → ((digits : List ℕ) → field ≡ 45 ∷ digits → ⊥) → IsRead (λ v. (1 ≤ v) × (v < 2 ^ 32)) decimal field n
-    → IsRead IsLit lit_field field (option_map (λ v. record { var = v; positive = true }) n)
+pub positive_read : (field : List ℕ) (n : Option ℕ) → ((digits : List ℕ) → field ≡ 45 ∷ digits → ⊥) → IsReadField (λ v. (1 ≤ v) × (v < 2 ^ 32)) decimal field n
+    → IsReadField IsLit lit_field field (option_map (λ v. record { var = v; positive = true }) n)
 unfolding signed_field
 positive_read field (Some n) none h = h
 positive_read field None none h = λ x fits e. positive_none field none h x.var x.positive fits e

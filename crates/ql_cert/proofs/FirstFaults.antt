@@ -16,7 +16,7 @@ use Rattle.ql_cert.specs.declared.fault.CertFault.TheVariants as fault
 use Rattle.ql_cert.specs.declared.fault.CertRule.{CertRule}
 use Rattle.ql_cert.specs.declared.fault.CertRule.TheVariants.{Unexpected, Number}
 use Rattle.ql_cert.specs.Faults.FirstFileFault.{unexpected, number, ended}
-use Rattle.ql_cert.specs.Faults.{BeginsFile, Closes, FirstFileFault, Follows, Gives, IsMisnumbered, IsRefusal, MayFollow, fault_at, fault_of, fields_in}
+use Rattle.ql_cert.specs.Faults.{BeginsFile, ClosesSaid, FirstFileFault, Follows, Gives, IsMisnumbered, IsRefusal, MayFollow, fault_at, cert_fault_of, fields_in}
 use Rattle.ql_cert.specs.OneLine.{closes_one, gives_one}
 use Rattle.ql_cert.proofs.Walking.{Walks, joined, next_state, one_walk, parted}
 
@@ -45,11 +45,11 @@ misnumbered P Q to line m = record {
   goes_on = to (decimal m.other ∷ m.body) m.goes_on;
 }
 
-said_some : {Said : Type 0} (said : Option Said) (end : ℕ) (x : Said) → Closes said end (Ok x) → said ≡ Some x
+said_some : {Said : Type 0} (said : Option Said) (end : ℕ) (x : Said) → ClosesSaid said end (Ok x) → said ≡ Some x
 said_some None end x c = absurd cc
 said_some (Some y) end x c = cc
 
-said_none : {Said : Type 0} (said : Option Said) (end : ℕ) (b : Broken CertRule) → Closes said end (Err b) → (said ≡ None) × (b ≡ record { line = end; rule = Unexpected })
+said_none : {Said : Type 0} (said : Option Said) (end : ℕ) (b : Broken CertRule) → ClosesSaid said end (Err b) → (said ≡ None) × (b ≡ record { line = end; rule = Unexpected })
 said_none None end b c = (refl, cc)
 said_none (Some y) end b c = absurd cc
 
@@ -63,7 +63,7 @@ module _ {State Said : Type 0} {first : State} {Takes : State → Fields → Sta
   gives s l x = Gives Takes s (fields_of l.text) x
 
   abbrev pub closes : State → ℕ → Result Said (Broken CertRule) → Type 0
-  closes s end x = Closes (said s) end x
+  closes s end x = ClosesSaid (said s) end x
 
   -- ---- lines lead to what their fields lead to
 
@@ -145,7 +145,7 @@ module _ {State Said : Type 0} {first : State} {Takes : State → Fields → Sta
         let whole = file_walk (fields_in file.lines) is in
         whole.2 (ap said (one_walk Takes r.one (fields_in file.lines) first whole.0 s whole.1 w) ∙ none.0)))
 
-    pub refusal : (f : FileFault CertRule) → IsEndAnswer (Outcome gives closes first file) (Err f) → IsRefusal IsFile file (fault_of f)
+    pub refusal : (f : FileFault CertRule) → IsEndAnswer (Outcome gives closes first file) (Err f) → IsRefusal IsFile file (cert_fault_of f)
     refusal (answer.Broken b) h = is_refusal IsFile file b.rule b.line (first_fault b h)
     refusal answer.NoMemory h = tt
 

@@ -7,7 +7,7 @@ use Rattle.ql_lines.proofs.Conses.{heads}
 use Rattle.ql_lines.specs.Fields.{Fields}
 use Rattle.ql_refute.specs.declared.refutation.Hint.{Hint}
 use Rattle.ql_cert.specs.Spelling.{IsHint, IsLit, clause_fields, colon, hint_field, lit_field}
-use Rattle.ql_cert.specs.Readings.{IsClauseBefore, IsNext, IsRead, before_colon}
+use Rattle.ql_cert.specs.Readings.{IsClauseBefore, IsNext, IsReadField, before_colon}
 use Rattle.ql_cert.specs.OneField.{one_hint}
 use Rattle.ql_cert.proofs.FieldLaws.{read_on, reads_on}
 
@@ -35,7 +35,7 @@ all_more P (x ∷ xs) y h p = (h.0, all_more P xs y h.1 p)
 
 -- where the next field spells no further literal, the fields begin with no clause before a colon
 pub no_clause : (read : List Lit) (field : List ℕ) (fields : Fields) (all : Fields) → all ≡ clause_fields read ++ field ∷ fields
-    → AllByRecursion IsLit read → (field ≡ colon → ⊥) → IsRead (IsNext read) lit_field field None → IsRead IsClauseBefore before_colon all None
+    → AllByRecursion IsLit read → (field ≡ colon → ⊥) → IsReadField (IsNext read) lit_field field None → IsReadField IsClauseBefore before_colon all None
 no_clause read field fields all e lits other none = λ x fits is.
     let on = reads_on read x.0 (field ∷ fields) x.1 lits fits.lits (sym e ∙ sym is) in
     let P : List Lit → Type 0 = λ more. x.0 ≡ read ++ more → field ∷ fields ≡ clause_fields more ++ colon ∷ x.1 → ⊥ in
@@ -49,7 +49,7 @@ no_clause read field fields all e lits other none = λ x fits is.
     ] on.1 on.2
 
 -- nor where no field is left
-pub no_colon_left : (read : List Lit) (all : Fields) → all ≡ clause_fields read ++ [] → AllByRecursion IsLit read → IsRead IsClauseBefore before_colon all None
+pub no_colon_left : (read : List Lit) (all : Fields) → all ≡ clause_fields read ++ [] → AllByRecursion IsLit read → IsReadField IsClauseBefore before_colon all None
 no_colon_left read all e lits = λ x fits is.
     let on = reads_on read x.0 [] x.1 lits fits.lits (sym e ∙ sym is) in
     let P : List Lit → Type 0 = λ more. [] ≡ clause_fields more ++ colon ∷ x.1 → ⊥ in
@@ -79,7 +79,7 @@ last_is_below (x ∷ z ∷ zs) d y some h =
 
 -- where the next field spells no hint, the fields spell no hints
 pub no_hints : (read : List Hint) (field : List ℕ) (fields all : Fields) → all ≡ map hint_field read ++ field ∷ fields → AllByRecursion IsHint read
-    → IsRead IsHint hint_field field None → IsRead (AllByRecursion IsHint) (map hint_field) all None
+    → IsReadField IsHint hint_field field None → IsReadField (AllByRecursion IsHint) (map hint_field) all None
 no_hints read field fields all e hints none = λ xs fits is.
     let on = read_on IsHint hint_field one_hint read xs (field ∷ fields) hints fits (sym e ∙ sym is) in
     let P : List Hint → Type 0 = λ more. xs ≡ read ++ more → field ∷ fields ≡ map hint_field more → ⊥ in

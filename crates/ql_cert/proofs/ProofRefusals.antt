@@ -24,7 +24,7 @@ use Rattle.ql_cert.specs.Spelling.{IsClause, IsLine, IsLit, body_fields, clause_
 use Rattle.ql_cert.specs.Faults.{Follows, Gives}
 use Rattle.ql_cert.specs.CertFile.{end_line}
 use Rattle.ql_cert.specs.ProofFile.{GoesOn, IsGiven, ProofTakes, most_variables, variables_line}
-use Rattle.ql_cert.specs.Readings.{Extends, IsNext, IsRead, two}
+use Rattle.ql_cert.specs.Readings.{Extends, IsNext, IsReadField, two}
 use Rattle.ql_cert.specs.OneField.{no_number, one_literal, same_all}
 use Rattle.ql_cert.proofs.FieldLaws.{read_on}
 use Rattle.ql_cert.proofs.LineLaws.{all_last, ascending_front}
@@ -64,7 +64,7 @@ range_of n (x ∷ c) lits within = All-cons (λ (x : Lit). (1 ≤ x.var) × (x.v
 
 -- where the next field spells no further literal, the fields spell no clause
 pub no_literals : (read : List Lit) (field : List ℕ) (fields all : Fields) → all ≡ clause_fields read ++ field ∷ fields → AllByRecursion IsLit read
-    → IsRead (IsNext read) lit_field field None → IsRead IsClause clause_fields all None
+    → IsReadField (IsNext read) lit_field field None → IsReadField IsClause clause_fields all None
 no_literals read field fields all e lits none = λ xs fits is.
     let on = read_on IsLit lit_field one_literal read xs (field ∷ fields) lits fits.lits (sym e ∙ sym is) in
     let P : List Lit → Type 0 = λ more. xs ≡ read ++ more → field ∷ fields ≡ clause_fields more → ⊥ in
@@ -179,7 +179,7 @@ module _ (cs : ClauseList) (ls : List Line) (body : Fields) where
   pub given_after_lines : (ls ≡ [] → ⊥) → Gives ProofTakes (Within cs ls) (codes "c" ∷ body) (Err Unexpected)
   given_after_lines some = not_given cs ls body (λ c none fits is. some none)
 
-  pub no_clause_given : IsRead IsClause clause_fields body None → Gives ProofTakes (Within cs ls) (codes "c" ∷ body) (Err Unexpected)
+  pub no_clause_given : IsReadField IsClause clause_fields body None → Gives ProofTakes (Within cs ls) (codes "c" ∷ body) (Err Unexpected)
   no_clause_given none = not_given cs ls body (λ c empty fits is. none c fits.clause is)
 
   pub given_out_of_range : (read : List Lit) → IsClause read → clause_fields read ≡ body → (AreInRange cs.variables read → ⊥) → Gives ProofTakes (Within cs ls) (codes "c" ∷ body) (Err Unexpected)

@@ -12,7 +12,7 @@ use Rattle.ql_cert.specs.Spelling.{IsLine, line_fields, numbered_lines}
 use Rattle.ql_cert.specs.Faults as faults
 use Rattle.ql_cert.specs.CertFile.{end_line}
 use Rattle.ql_cert.specs.OneProofLine.{one_after}
-use Rattle.ql_cert.specs.ProofFile.{Begins, Ends, FitsProof, Gives, GoesOn, IsGiven, IsProofFile, IsProofOf, ProofTakes, given_line, no_clauses, proof_lines, proof_said, variables_line, with_given}
+use Rattle.ql_cert.specs.ProofFile.{OpensProof, Ends, FitsProof, Gives, GoesOn, IsGiven, IsProofFile, IsProofOf, ProofTakes, given_line, no_clauses, proof_lines, proof_said, variables_line, with_given}
 use Rattle.ql_cert.proofs.FirstFaults.{IsReader}
 use Rattle.ql_cert.proofs.LineLaws.{all_more}
 use Rattle.ql_cert.proofs.States.{numbered_more}
@@ -106,7 +106,7 @@ lines_walk (l ∷ more) cs ls fits few =
 within_walk : (cs : ClauseList) (ls : List Line) → FitsProof cs ls → Walks ProofTakes Unbegun (proof_so_far (Within cs ls)) (Within cs ls)
 unfolding Walks
 within_walk cs ls fits =
-    let start : Begins (variables_line cs.variables) (Within (no_clauses cs.variables) []) = record { variables = cs.variables; few = fits.variables; is = refl; to = refl } in (
+    let start : OpensProof (variables_line cs.variables) (Within (no_clauses cs.variables) []) = record { variables = cs.variables; few = fits.variables; is = refl; to = refl } in (
       Within (no_clauses cs.variables) [],
       start,
       joined ProofTakes (map given_line cs.clauses) (numbered_lines 1 ls) (Within (no_clauses cs.variables) []) (Within cs []) (Within cs ls)

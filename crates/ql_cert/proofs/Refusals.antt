@@ -21,7 +21,7 @@ use Rattle.ql_cert.specs.Spelling.{IsLine, body_fields}
 use Rattle.ql_cert.specs.Faults.{Follows, Gives}
 use Rattle.ql_cert.specs.declared.cert_reader.CertReading.{CertReading}
 use Rattle.ql_cert.specs.declared.cert_reader.CertReading.TheVariants.{Untitled, Within}
-use Rattle.ql_cert.specs.CertFile.{GoesOn, Takes, end_line, heading, kind_word, level_word, title, with_line}
+use Rattle.ql_cert.specs.CertFile.{GoesOn, TakesLine, end_line, heading, kind_word, level_word, title, with_line}
 use Rattle.ql_cert.specs.Readings.{Extends, IsLevelRead, three}
 use Rattle.ql_cert.specs.OneField.{no_number}
 use Rattle.ql_cert.specs.OneLine.{kind_no_number}
@@ -62,30 +62,30 @@ not_three fields none name level e = none (kind_word level, name, level_word lev
 title_no_number : (n : ℕ) (body : Fields) → n < 2 ^ 64 → decimal n ∷ body ≡ title → ⊥
 title_no_number n body small e = no_number n small 113 (117 ∷ 101 ∷ 108 ∷ 101 ∷ 97 ∷ []) (inr (omega arith)) (ap first e)
 
-pub not_titled : (line : Fields) → (line ≡ title → ⊥) → Gives Takes Untitled line (Err Unexpected)
+pub not_titled : (line : Fields) → (line ≡ title → ⊥) → Gives TakesLine Untitled line (Err Unexpected)
 not_titled line none = (λ p. none p.1.0, λ m. title_no_number m.other m.body m.other_small m.goes_on.1.0)
 
 -- ---- after sections
 
 module _ (done : List Section) (last : Option Section) where
   no_form : (line : Fields) → ((name : List ℕ) (level : SectionLevel) → IsName name → heading name level ≡ line → ⊥) → (line ≡ end_line → ⊥)
-      → ((n : ℕ) → n < 2 ^ 64 → first line ≡ decimal n → ⊥) → Follows Takes (Within done last) line → ⊥
+      → ((n : ℕ) → n < 2 ^ 64 → first line ≡ decimal n → ⊥) → Follows TakesLine (Within done last) line → ⊥
   no_form line no_heading no_end no_num (after, inl p) = no_heading p.name p.level p.is_name (sym p.is)
   no_form line no_heading no_end no_num (after, inr (inl p)) = no_num (suc (length p.section.refutation.lines)) p.few (ap first p.is)
   no_form line no_heading no_end no_num (after, inr (inr p)) = no_end p.is
 
   -- a line that is no heading, not the last one and begins with no number
   pub unexpected_form : (line : Fields) → ((name : List ℕ) (level : SectionLevel) → IsName name → heading name level ≡ line → ⊥) → (line ≡ end_line → ⊥)
-      → ((n : ℕ) → n < 2 ^ 64 → first line ≡ decimal n → ⊥) → Gives Takes (Within done last) line (Err Unexpected)
+      → ((n : ℕ) → n < 2 ^ 64 → first line ≡ decimal n → ⊥) → Gives TakesLine (Within done last) line (Err Unexpected)
   unexpected_form line no_heading no_end no_num = (no_form line no_heading no_end no_num, λ m. no_num m.number m.small (ap first m.is))
 
   -- a numbered line goes on as one of the last section's lines alone
-  goes_on_alone : (n : ℕ) (body : Fields) → n < 2 ^ 64 → Follows Takes (Within done last) (decimal n ∷ body) → (after : CertReading) × GoesOn done last (decimal n ∷ body) after
+  goes_on_alone : (n : ℕ) (body : Fields) → n < 2 ^ 64 → Follows TakesLine (Within done last) (decimal n ∷ body) → (after : CertReading) × GoesOn done last (decimal n ∷ body) after
   goes_on_alone n body small (after, inl p) = absurd (kind_no_number p.level n small (sym (ap first p.is)))
   goes_on_alone n body small (after, inr (inl p)) = (after, p)
   goes_on_alone n body small (after, inr (inr p)) = absurd (no_number n small 101 (110 ∷ 100 ∷ []) (inr (omega arith)) (ap first p.is))
 
-  pub unexpected_line : (n : ℕ) (body : Fields) → n < 2 ^ 64 → ((m : ℕ) (after : CertReading) → GoesOn done last (decimal m ∷ body) after → ⊥) → Gives Takes (Within done last) (decimal n ∷ body) (Err Unexpected)
+  pub unexpected_line : (n : ℕ) (body : Fields) → n < 2 ^ 64 → ((m : ℕ) (after : CertReading) → GoesOn done last (decimal m ∷ body) after → ⊥) → Gives TakesLine (Within done last) (decimal n ∷ body) (Err Unexpected)
   unexpected_line n body small none = (
     λ p. let g = goes_on_alone n body small p in none n g.0 g.1,
     λ m.
@@ -95,7 +95,7 @@ module _ (done : List Section) (last : Option Section) where
   )
 
   pub misnumbered_line : (s : Section) (l : Line) (n : ℕ) → n < 2 ^ 64 → last ≡ Some s → IsLine l → suc (length s.refutation.lines) < 2 ^ 64 → (n ≡ suc (length s.refutation.lines) → ⊥)
-      → Gives Takes (Within done last) (decimal n ∷ body_fields l) (Err Number)
+      → Gives TakesLine (Within done last) (decimal n ∷ body_fields l) (Err Number)
   misnumbered_line s l n small in_it fits few other = (
     λ p.
         let g = goes_on_alone n (body_fields l) small p in
@@ -115,23 +115,23 @@ module _ (done : List Section) (last : Option Section) where
   )
 
   -- a numbered line without a section
-  pub no_section : (n : ℕ) (body : Fields) → n < 2 ^ 64 → last ≡ None → Gives Takes (Within done last) (decimal n ∷ body) (Err Unexpected)
+  pub no_section : (n : ℕ) (body : Fields) → n < 2 ^ 64 → last ≡ None → Gives TakesLine (Within done last) (decimal n ∷ body) (Err Unexpected)
   no_section n body small none = unexpected_line n body small (λ m after g. none_some g.section (sym none ∙ g.in_it))
 
   -- a numbered line whose body is none
-  pub no_body : (n : ℕ) (body : Fields) → n < 2 ^ 64 → ((l : Line) → IsLine l → body_fields l ≡ body → ⊥) → Gives Takes (Within done last) (decimal n ∷ body) (Err Unexpected)
+  pub no_body : (n : ℕ) (body : Fields) → n < 2 ^ 64 → ((l : Line) → IsLine l → body_fields l ≡ body → ⊥) → Gives TakesLine (Within done last) (decimal n ∷ body) (Err Unexpected)
   no_body n body small none = unexpected_line n body small (λ m after g. none g.next g.fits (ap (λ (f : Fields). drop 1 f) (sym g.is)))
 
   -- a numbered line with which the section's lines can't go on, and one with which they do
   pub not_extended : (s : Section) (n : ℕ) (body : Fields) → n < 2 ^ 64 → last ≡ Some s → (fault : LineFault CertRule) → IsLineAnswer (Extends s.refutation.lines n body) (Err fault)
-      → IsLineAnswer (Gives Takes (Within done last) (decimal n ∷ body)) (Err fault)
+      → IsLineAnswer (Gives TakesLine (Within done last) (decimal n ∷ body)) (Err fault)
   not_extended s n body small in_it (Breaks Unexpected) none = no_body n body small none
   not_extended s n body small in_it (Breaks Number) (l, fits, few, other, is) =
-      subst (λ (b : Fields). Gives Takes (Within done last) (decimal n ∷ b) (Err Number)) is (misnumbered_line s l n small in_it fits few other)
+      subst (λ (b : Fields). Gives TakesLine (Within done last) (decimal n ∷ b) (Err Number)) is (misnumbered_line s l n small in_it fits few other)
   not_extended s n body small in_it NoMemory is = tt
 
   pub extended : (s : Section) (n : ℕ) (body : Fields) (after : List Line) → last ≡ Some s → Extends s.refutation.lines n body (Ok after)
-      → Takes (Within done last) (decimal n ∷ body) (Within done (Some (record { name = s.name; level = s.level; refutation = record { lines = after } })))
+      → TakesLine (Within done last) (decimal n ∷ body) (Within done (Some (record { name = s.name; level = s.level; refutation = record { lines = after } })))
   extended s n body after in_it (l, fits, few, same, is, added) =
       inr (inl (record {
         section = s;
@@ -145,6 +145,6 @@ module _ (done : List Section) (last : Option Section) where
 
   -- a line that begins with no number
   pub no_number_first : (field : List ℕ) (rest line : Fields) → line ≡ field ∷ rest → ((name : List ℕ) (level : SectionLevel) → IsName name → heading name level ≡ line → ⊥) → (line ≡ end_line → ⊥)
-      → ((n : ℕ) → ¬ Spells 18446744073709551615 n field) → Gives Takes (Within done last) line (Err Unexpected)
+      → ((n : ℕ) → ¬ Spells 18446744073709551615 n field) → Gives TakesLine (Within done last) line (Err Unexpected)
   no_number_first field rest line is no_heading no_end none =
       unexpected_form line no_heading no_end (λ n small e. none n (record { bounded = omega (arith, small); spelled = sym e ∙ ap first is }))

@@ -10,7 +10,7 @@ use Rattle.ql_cert.specs.Spelling.{IsLine, line_fields, numbered_lines}
 use Rattle.ql_cert.specs.Faults.{BeginsFile}
 use Rattle.ql_cert.specs.declared.cert_reader.CertReading.{CertReading}
 use Rattle.ql_cert.specs.declared.cert_reader.CertReading.TheVariants.{Untitled, Within, Ended}
-use Rattle.ql_cert.specs.CertFile.{Takes, IsCertFile, IsCertOf, IsSection, cert_lines, end_line, heading, opened, said, section_lines, sections_lines, title, with_last, with_line}
+use Rattle.ql_cert.specs.CertFile.{TakesLine, IsCertFile, IsCertOf, IsSection, cert_lines, end_line, heading, opened, said_sections, section_lines, sections_lines, title, with_last, with_line}
 use Rattle.ql_cert.specs.OneLine.{one_after}
 use Rattle.ql_cert.proofs.FirstFaults.{IsReader}
 use Rattle.ql_cert.proofs.LineLaws.{all_last, all_more}
@@ -61,7 +61,7 @@ grown_section s l fits line few = record {
   few = omega (arith, few, length-append s.refutation.lines (l ∷ []));
 }
 
-pub takes_on : (s : CertReading) (line : Fields) (t : CertReading) → IsState s → Takes s line t → lines_so_far t ≡ lines_so_far s ++ line ∷ []
+pub takes_on : (s : CertReading) (line : Fields) (t : CertReading) → IsState s → TakesLine s line t → lines_so_far t ≡ lines_so_far s ++ line ∷ []
 takes_on Untitled line t is p = ap lines_so_far p.1 ∙ ap (λ f. f ∷ []) (sym p.0)
 takes_on (Within done last) line t is (inl p) =
     ap lines_so_far p.to ∙ ap (λ r. title ∷ r) (sections_more (with_last done last) (opened p.name p.level) ∙ ap (λ r. sections_lines (with_last done last) ++ r) (opened_lines p.name p.level ∙ ap (λ f. f ∷ []) (sym p.is)))
@@ -69,7 +69,7 @@ takes_on (Within done last) line t is (inr (inl p)) = ap lines_so_far p.to ∙ a
 takes_on (Within done last) line t is (inr (inr p)) = ap lines_so_far p.to ∙ ap (λ f. title ∷ (sections_lines (with_last done last) ++ f ∷ [])) (sym p.is)
 takes_on (Ended ss) line t is p = absurd p
 
-pub stays_state : (s : CertReading) (line : Fields) (t : CertReading) → IsState s → Takes s line t → IsState t
+pub stays_state : (s : CertReading) (line : Fields) (t : CertReading) → IsState s → TakesLine s line t → IsState t
 stays_state Untitled line t is p = subst IsState (sym p.1) tt
 stays_state (Within done last) line t is (inl p) =
     subst IsState (sym p.to) (all_more IsSection (with_last done last) (opened p.name p.level) is (record { name = p.is_name; lines = tt; few = omega arith }))
@@ -87,12 +87,12 @@ begins Untitled is = (cert_lines [], ([], record { sections = tt; are = refl }))
 begins (Within done last) is = (end_line ∷ [], (with_last done last, record { sections = is; are = refl }))
 begins (Ended ss) is = ([], (ss, record { sections = is; are = append-nil (cert_lines ss) }))
 
-ends : (s : CertReading) (ss : List Section) → IsState s → said s ≡ Some ss → IsCertOf ss (lines_so_far s)
+ends : (s : CertReading) (ss : List Section) → IsState s → said_sections s ≡ Some ss → IsCertOf ss (lines_so_far s)
 ends Untitled ss is e = absurd cc
 ends (Within done last) ss is e = absurd cc
 ends (Ended ts) ss is e = let same : ts ≡ ss = cc in subst (λ us. IsCertOf us (cert_lines ts)) same (record { sections = is; are = refl })
 
-pub cert_reader : IsReader Untitled Takes said IsCertFile IsCertOf lines_so_far IsState
+pub cert_reader : IsReader Untitled TakesLine said_sections IsCertFile IsCertOf lines_so_far IsState
 cert_reader = record {
   one = one_after;
   starts = (refl, tt);
@@ -100,7 +100,7 @@ cert_reader = record {
   stays = stays_state;
   begins = begins;
   ends = ends;
-  walk = λ ss fs h. (Ended ss, subst (λ gs. Walks Takes Untitled gs (Ended ss)) (sym h.are) (cert_walk ss h.sections), refl);
+  walk = λ ss fs h. (Ended ss, subst (λ gs. Walks TakesLine Untitled gs (Ended ss)) (sym h.are) (cert_walk ss h.sections), refl);
   is_file = λ ss fs h. (ss, h);
   file_of = λ fs h. h;
 }

@@ -92,12 +92,12 @@ pub record Ends (done : List Section) (last : Option Section) (line : Fields) (a
   pub to : after ≡ Ended (with_last done last)
 
 -- the line leads from one state of reading to the next
-abbrev pub Takes : CertReading → Fields → CertReading → Type 0
-Takes Untitled line after = (line ≡ title) × (after ≡ Within [] None)
-Takes (Within done last) line after = Opens done last line after ⊎ (GoesOn done last line after ⊎ Ends done last line after)
-Takes (Ended ss) line after = ⊥
+abbrev pub TakesLine : CertReading → Fields → CertReading → Type 0
+TakesLine Untitled line after = (line ≡ title) × (after ≡ Within [] None)
+TakesLine (Within done last) line after = Opens done last line after ⊎ (GoesOn done last line after ⊎ Ends done last line after)
+TakesLine (Ended ss) line after = ⊥
 
 -- the sections of a file that ends here, if it may end here
-abbrev pub said : CertReading → Option (List Section)
-said (Ended ss) = Some ss
-said other = None
+abbrev pub said_sections : CertReading → Option (List Section)
+said_sections (Ended ss) = Some ss
+said_sections other = None

@@ -61,13 +61,13 @@ module _ {State : Type 0} (Takes : State → Fields → State → Type 0) where
   Gives before line (Err Number) = (Follows before line → ⊥) × IsMisnumbered (Follows before) line
 
 -- what a file that ends here contains; if it may not end here, the fault is at the line after its last one
-abbrev pub Closes : {Said : Type 0} → Option Said → ℕ → Result Said (Broken CertRule) → Type 0
-Closes said end x = x ≡ ok_or said (record { line = end; rule = Unexpected })
+abbrev pub ClosesSaid : {Said : Type 0} → Option Said → ℕ → Result Said (Broken CertRule) → Type 0
+ClosesSaid said end x = x ≡ ok_or said (record { line = end; rule = Unexpected })
 
 abbrev pub fault_at : CertRule → ℕ → CertFault
 fault_at Unexpected line = fault.Unexpected line
 fault_at Number line = fault.Number line
 
-abbrev pub fault_of : FileFault CertRule → CertFault
-fault_of (file.Broken broken) = fault_at broken.rule broken.line
-fault_of file.NoMemory = fault.NoMemory
+abbrev pub cert_fault_of : FileFault CertRule → CertFault
+cert_fault_of (file.Broken broken) = fault_at broken.rule broken.line
+cert_fault_of file.NoMemory = fault.NoMemory

@@ -13,16 +13,16 @@ use Rattle.ql_cert.specs.declared.cert_reader.CertReading.{CertReading}
 use Rattle.ql_cert.specs.declared.cert_reader.CertReading.TheVariants.{Untitled, Within, Ended}
 use Rattle.ql_cert.specs.declared.fault.CertRule.{CertRule}
 use Rattle.ql_cert.specs.declared.fault.CertRule.TheVariants.{Unexpected, Number}
-use Rattle.ql_cert.specs.CertFile.{Opens, GoesOn, Takes, end_line, heading, kind_word, level_word, opened, with_line, with_last}
-use Rattle.ql_cert.specs.Faults.{Closes, Follows, Gives}
+use Rattle.ql_cert.specs.CertFile.{Opens, GoesOn, TakesLine, end_line, heading, kind_word, level_word, opened, with_line, with_last}
+use Rattle.ql_cert.specs.Faults.{ClosesSaid, Follows, Gives}
 use Rattle.ql_cert.specs.OneField.{no_number, same_line}
 use Rattle.ql_cert.specs.Spelling.{body_fields, line_fields}
 
 -- ---- of any line file whose lines each lead to one state at most
 
-module _ {State : Type 0} (Takes : State → Fields → State → Type 0) where
-  pub gives_one : ((s : State) (f : Fields) (a b : State) → Takes s f a → Takes s f b → a ≡ b) → (s : State) (f : Fields) (x y : Result State CertRule)
-      → Gives Takes s f x → Gives Takes s f y → x ≡ y
+module _ {State : Type 0} (TakesLine : State → Fields → State → Type 0) where
+  pub gives_one : ((s : State) (f : Fields) (a b : State) → TakesLine s f a → TakesLine s f b → a ≡ b) → (s : State) (f : Fields) (x y : Result State CertRule)
+      → Gives TakesLine s f x → Gives TakesLine s f y → x ≡ y
   gives_one one s f (Ok a) (Ok b) p q = ap Ok (one s f a b p q)
   gives_one one s f (Ok a) (Err Unexpected) p q = absurd (q.0 (a, p))
   gives_one one s f (Ok a) (Err Number) p q = absurd (q.0 (a, p))
@@ -33,15 +33,15 @@ module _ {State : Type 0} (Takes : State → Fields → State → Type 0) where
   gives_one one s f (Err Unexpected) (Err Number) p q = absurd (p.1 q.1)
   gives_one one s f (Err Number) (Err Unexpected) p q = absurd (q.1 p.1)
 
-  pub gives_some : (s : State) (f : Fields) → ((x : Result State CertRule) → Gives Takes s f x → ⊥) → ⊥
+  pub gives_some : (s : State) (f : Fields) → ((x : Result State CertRule) → Gives TakesLine s f x → ⊥) → ⊥
   gives_some s f none =
-      let stops : Follows Takes s f → ⊥ = λ p. none (Ok p.0) p.1 in
+      let stops : Follows TakesLine s f → ⊥ = λ p. none (Ok p.0) p.1 in
       none (Err Unexpected) (stops, λ m. none (Err Number) (stops, m))
 
-pub closes_one : {Said : Type 0} (said : Option Said) (end : ℕ) (x y : Result Said (Broken CertRule)) → Closes said end x → Closes said end y → x ≡ y
+pub closes_one : {Said : Type 0} (said : Option Said) (end : ℕ) (x y : Result Said (Broken CertRule)) → ClosesSaid said end x → ClosesSaid said end y → x ≡ y
 closes_one said end x y p q = p ∙ sym q
 
-pub closes_some : {Said : Type 0} (said : Option Said) (end : ℕ) → ((x : Result Said (Broken CertRule)) → Closes said end x → ⊥) → ⊥
+pub closes_some : {Said : Type 0} (said : Option Said) (end : ℕ) → ((x : Result Said (Broken CertRule)) → ClosesSaid said end x → ⊥) → ⊥
 closes_some said end none = none _ refl
 
 -- ---- a line of a certificate is of one form
@@ -98,7 +98,7 @@ module _ (done : List Section) (last : Option Section) where
       let same : body_fields p.next ≡ body_fields q.next = ap (λ (f : Fields). drop 1 f) (sym p.is ∙ q.is) in
       p.to ∙ ap₂ (λ s n. Within done (Some (with_line s n))) sections (same_line p.next q.next p.fits q.fits same) ∙ sym q.to
 
-  one_way : (line : Fields) (a b : CertReading) → Takes (Within done last) line a → Takes (Within done last) line b → a ≡ b
+  one_way : (line : Fields) (a b : CertReading) → TakesLine (Within done last) line a → TakesLine (Within done last) line b → a ≡ b
   one_way line a b (inl p) (inl q) = one_opening line a b p q
   one_way line a b (inr (inl p)) (inr (inl q)) = one_step line a b p q
   one_way line a b (inr (inr p)) (inr (inr q)) = p.to ∙ sym q.to
@@ -109,7 +109,7 @@ module _ (done : List Section) (last : Option Section) where
   one_way line a b (inr (inl p)) (inr (inr q)) = absurd (end_no_line _ p.next p.few (sym q.is ∙ p.is))
   one_way line a b (inr (inr p)) (inr (inl q)) = absurd (end_no_line _ q.next q.few (sym p.is ∙ q.is))
 
-pub one_after : (s : CertReading) (line : Fields) (a b : CertReading) → Takes s line a → Takes s line b → a ≡ b
+pub one_after : (s : CertReading) (line : Fields) (a b : CertReading) → TakesLine s line a → TakesLine s line b → a ≡ b
 one_after Untitled line a b p q = p.1 ∙ sym q.1
 one_after (Within done last) line a b p q = one_way done last line a b p q
 one_after (Ended ss) line a b p q = absurd p

@@ -11,7 +11,7 @@ use Rattle.ql_cert.specs.declared.proof_reader.ProofReading.TheVariants.{Unbegun
 use Rattle.ql_cert.specs.CertFile.{end_line}
 use Rattle.ql_cert.specs.OneField.{no_number, one_literal, same_all, same_line}
 use Rattle.ql_cert.specs.OneLine.{end_no_line}
-use Rattle.ql_cert.specs.ProofFile.{Begins, Gives, GoesOn, ProofTakes, clause_count, given_line, no_clauses, with_given}
+use Rattle.ql_cert.specs.ProofFile.{OpensProof, Gives, GoesOn, ProofTakes, clause_count, given_line, no_clauses, with_given}
 use Rattle.ql_cert.specs.Spelling.{IsLit, body_fields, line_fields, lit_field}
 
 -- a clause isn't a numbered line
@@ -44,7 +44,7 @@ module _ (cs : ClauseList) (ls : List Line) where
   one_way line a b (inr (inl p)) (inr (inr q)) = absurd (end_no_line _ p.next p.few (sym q.is ∙ p.is))
   one_way line a b (inr (inr p)) (inr (inl q)) = absurd (end_no_line _ q.next q.few (sym p.is ∙ q.is))
 
-one_beginning : (line : Fields) (a b : ProofReading) → Begins line a → Begins line b → a ≡ b
+one_beginning : (line : Fields) (a b : ProofReading) → OpensProof line a → OpensProof line b → a ≡ b
 one_beginning line a b p q =
     let same : p.variables ≡ q.variables =
     decimal_injective p.variables q.variables (omega (arith, p.few)) (omega (arith, q.few)) (ap (λ (f : Fields). get_or f 1 []) (sym p.is ∙ q.is)) in

@@ -54,7 +54,7 @@ abbrev pub with_given : ClauseList → List Lit → ClauseList
 with_given cs c = record { variables = cs.variables; clauses = cs.clauses ++ c ∷ [] }
 
 -- the next line has the number of variables
-pub record Begins (line : Fields) (after : ProofReading) : Type 0 where
+pub record OpensProof (line : Fields) (after : ProofReading) : Type 0 where
   pub variables : ℕ
   pub few : variables ≤ most_variables
   pub is : line ≡ variables_line variables
@@ -83,7 +83,7 @@ pub record Ends (cs : ClauseList) (ls : List Line) (line : Fields) (after : Proo
 
 -- the line leads from one state of reading to the next
 abbrev pub ProofTakes : ProofReading → Fields → ProofReading → Type 0
-ProofTakes Unbegun line after = Begins line after
+ProofTakes Unbegun line after = OpensProof line after
 ProofTakes (Within cs ls) line after = Gives cs ls line after ⊎ (GoesOn cs ls line after ⊎ Ends cs ls line after)
 ProofTakes (Ended cs ls) line after = ⊥
 

@@ -11,9 +11,9 @@ use Rattle.ql_cert.specs.CertFile.{kind_word, level_word}
 use Rattle.ql_cert.specs.Spelling.{IsClause, IsLine, IsLit, body_fields, clause_fields, colon}
 
 -- the value that the fields spell, or none if they spell none
-abbrev pub IsRead : {X F : Type 0} → (X → Type 0) → (X → F) → F → Option X → Type 0
-IsRead {X} Fits spell field None = (x : X) → Fits x → spell x ≡ field → ⊥
-IsRead Fits spell field (Some x) = Fits x × (spell x ≡ field)
+abbrev pub IsReadField : {X F : Type 0} → (X → Type 0) → (X → F) → F → Option X → Type 0
+IsReadField {X} Fits spell field None = (x : X) → Fits x → spell x ≡ field → ⊥
+IsReadField Fits spell field (Some x) = Fits x × (spell x ≡ field)
 
 -- a literal after others, with a greater variable
 abbrev pub IsNext : List Lit → Lit → Type 0
@@ -41,5 +41,5 @@ IsLevelRead kind word (Some l) = (kind_word l ≡ kind) × (level_word l ≡ wor
 abbrev pub Extends : List Line → ℕ → Fields → Result (List Line) CertRule → Type 0
 Extends lines number body (Ok after) =
     (next : Line) × IsLine next × (suc (length lines) < 2 ^ 64) × (number ≡ suc (length lines)) × (body_fields next ≡ body) × (after ≡ lines ++ next ∷ [])
-Extends lines number body (Err Unexpected) = IsRead IsLine body_fields body None
+Extends lines number body (Err Unexpected) = IsReadField IsLine body_fields body None
 Extends lines number body (Err Number) = (next : Line) × IsLine next × (suc (length lines) < 2 ^ 64) × (number ≡ suc (length lines) → ⊥) × (body_fields next ≡ body)

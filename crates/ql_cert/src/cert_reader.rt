@@ -4,10 +4,10 @@ ghost use Rattle.ql_base.specs.Names.{IsName};
 ghost use Rattle.ql_lines.specs.Answers.{IsLineAnswer};
 ghost use Rattle.ql_lines.specs.Fields.{fields_of};
 ghost use Rattle.ql_cert.specs.declared.cert_reader.CertReading.TheVariants.{Untitled, Within};
-ghost use Rattle.ql_cert.specs.CertFile.{Takes, end_line, heading, opened, said, title, with_last};
-ghost use Rattle.ql_cert.specs.Faults.{Closes, Gives};
+ghost use Rattle.ql_cert.specs.CertFile.{TakesLine, end_line, heading, opened, said_sections, title, with_last};
+ghost use Rattle.ql_cert.specs.Faults.{ClosesSaid, Gives};
 ghost use Rattle.ql_cert.specs.OneLine.{closes_one, closes_some, gives_one, gives_some, one_after};
-ghost use Rattle.ql_cert.specs.Readings.{IsLevelRead, IsRead, three};
+ghost use Rattle.ql_cert.specs.Readings.{IsLevelRead, IsReadField, three};
 
 use crate::cert::{Section, SectionLevel, Sections};
 use crate::fault::CertRule;
@@ -52,9 +52,9 @@ impl LineFormat for CertFormat {
 
     ghost allows = { λ f bytes. Unit {0} };
 
-    ghost gives = { λ f read l x. Gives Takes read (fields_of l.text) x };
+    ghost gives = { λ f read l x. Gives TakesLine read (fields_of l.text) x };
 
-    ghost closes = { λ f read end x. Closes (said read) end x };
+    ghost closes = { λ f read end x. ClosesSaid (said_sections read) end x };
 
     fn start(&self) -> CertReading {
         CertReading::Untitled
@@ -87,19 +87,19 @@ impl LineFormat for CertFormat {
 
     ghost stays_sound = { λ f s t l more allowed sound given. tt };
 
-    ghost gives_one = { λ f s l x y p q. gives_one Takes one_after s (fields_of l.text) x y p q };
+    ghost gives_one = { λ f s l x y p q. gives_one TakesLine one_after s (fields_of l.text) x y p q };
 
-    ghost gives_some = { λ f s l none. gives_some Takes s (fields_of l.text) none };
+    ghost gives_some = { λ f s l none. gives_some TakesLine s (fields_of l.text) none };
 
-    ghost closes_one = { λ f s end x y p q. closes_one (said s) end x y p q };
+    ghost closes_one = { λ f s end x y p q. closes_one (said_sections s) end x y p q };
 
-    ghost closes_some = { λ f s end none. closes_some (said s) end none };
+    ghost closes_some = { λ f s end none. closes_some (said_sections s) end none };
 }
 
 #[tactic(auto, using(crate::proofs::Refusals::not_titled))]
 // The first line must be the title.
 fn titled(alloc: Global, text: &[u8]) -> Result<CertReading, LineFault<CertRule>>
-    ensures { IsLineAnswer (Gives Takes Untitled (fields_of text.now)) result }
+    ensures { IsLineAnswer (Gives TakesLine Untitled (fields_of text.now)) result }
 {
     if is_title(text) {
         Ok(CertReading::Within(Sections::of(Vec::new(alloc)), None))
@@ -132,7 +132,7 @@ pub(crate) fn is_end(text: &[u8]) -> bool
 
 // The fields of a line that has three.
 fn three_fields(text: &[u8]) -> Option<(&[u8], &[u8], &[u8])>
-    ensures { IsRead (λ _. Unit {0}) three (fields_of text.now)
+    ensures { IsReadField (λ _. Unit {0}) three (fields_of text.now)
         (option_map (λ x. (x.0.now, x.1.now, x.2.now)) result) }
 {
     let (a, rest) = first_field(text)?;
@@ -147,7 +147,7 @@ fn three_fields(text: &[u8]) -> Option<(&[u8], &[u8], &[u8])>
 #[tactic(auto, using(crate::proofs::Refusals::not_three))]
 // The heading on a line.
 fn read_heading(text: &[u8]) -> Option<Heading>
-    ensures { IsRead (λ h. IsName h.name)
+    ensures { IsReadField (λ h. IsName h.name)
         (λ h. heading h.name h.level) (fields_of text.now) result }
 {
     let Some((kind, name, word)) = three_fields(text) else {
@@ -204,7 +204,7 @@ fn within(
     last: Option<Section>,
     text: &[u8],
 ) -> Result<CertReading, LineFault<CertRule>>
-    ensures { IsLineAnswer (Gives Takes (Within done last) (fields_of text.now)) result }
+    ensures { IsLineAnswer (Gives TakesLine (Within done last) (fields_of text.now)) result }
 {
     if let Some(heading) = read_heading(text) {
         let all = with_last(done, last)?;
@@ -242,7 +242,7 @@ fn numbered(
     number: u64,
     body: &[u8],
 ) -> Result<CertReading, LineFault<CertRule>>
-    ensures { IsLineAnswer (Gives Takes (Within done last) (decimal number ∷ fields_of body.now))
+    ensures { IsLineAnswer (Gives TakesLine (Within done last) (decimal number ∷ fields_of body.now))
         result }
 {
     let Some(section) = last else {

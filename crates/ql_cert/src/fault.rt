@@ -1,5 +1,5 @@
 ghost use Rattle.std.specs.Prelude.{◌≡◌};
-ghost use Rattle.ql_cert.specs.Faults.{fault_of};
+ghost use Rattle.ql_cert.specs.Faults.{cert_fault_of};
 
 use ql_lines::{Broken, FileFault};
 
@@ -24,7 +24,7 @@ pub(crate) enum CertRule {
 
 /// The public form of a fault.
 pub(crate) fn fault_of(fault: FileFault<CertRule>) -> CertFault
-    ensures { result ≡ fault_of fault }
+    ensures { result ≡ cert_fault_of fault }
 {
     match fault {
         FileFault::Broken(Broken { line, rule }) => match rule {

@@ -1,7 +1,7 @@
 ghost use Rattle.std.specs.Prelude.{◌≡◌, ◌≤◌, ◌<◌, ◌^◌, decimal};
 ghost use Rattle.std.specs.Option.{option_map};
 ghost use Rattle.ql_cert.specs.Spelling.{IsHint, IsLit, hint_field, lit_field};
-ghost use Rattle.ql_cert.specs.Readings.{IsRead};
+ghost use Rattle.ql_cert.specs.Readings.{IsReadField};
 
 use ql_base::number_of;
 use ql_cnf::Lit;
@@ -10,7 +10,7 @@ use ql_refute::Hint;
 /// The literal that a field spells.
 #[tactic(auto, using(crate::proofs::FieldLaws::negative_read, crate::proofs::FieldLaws::positive_read))]
 pub(crate) fn literal(field: &[u8]) -> Option<Lit>
-    ensures { IsRead IsLit lit_field field.now result }
+    ensures { IsReadField IsLit lit_field field.now result }
 {
     match field.split_first() {
         Some((b'-', digits)) => signed(variable(digits), false),
@@ -28,7 +28,7 @@ fn signed(variable: Option<u32>, positive: bool) -> Option<Lit>
 
 // The variable or number of a given clause that digits spell.
 fn variable(digits: &[u8]) -> Option<u32>
-    ensures { IsRead (λ n. (1 ≤ n) × (n < 2 ^ 32)) decimal digits.now result }
+    ensures { IsReadField (λ n. (1 ≤ n) × (n < 2 ^ 32)) decimal digits.now result }
 {
     let number = number_from_one(digits, u64::from(u32::MAX))?;
     Some(number as u32)
@@ -36,7 +36,7 @@ fn variable(digits: &[u8]) -> Option<u32>
 
 // The number from 1 to `most` that digits spell.
 fn number_from_one(digits: &[u8], most: u64) -> Option<u64>
-    ensures { IsRead (λ n. (1 ≤ n) × (n ≤ most)) decimal digits.now result }
+    ensures { IsReadField (λ n. (1 ≤ n) × (n ≤ most)) decimal digits.now result }
 {
     let number = number_of(digits, most)?;
     if number == 0 {
@@ -48,7 +48,7 @@ fn number_from_one(digits: &[u8], most: u64) -> Option<u64>
 /// The hint that a field spells.
 #[tactic(auto, unfolding(crate::specs::Spelling::hint_field, crate::specs::Spelling::IsHint))]
 pub(crate) fn hint(field: &[u8]) -> Option<Hint>
-    ensures { IsRead IsHint hint_field field.now result }
+    ensures { IsReadField IsHint hint_field field.now result }
 {
     match field.split_first()? {
         (b'c', digits) => Some(Hint::Given(variable(digits)?)),
@@ -59,7 +59,7 @@ pub(crate) fn hint(field: &[u8]) -> Option<Hint>
 
 // The number of a line that digits spell.
 fn line_number(digits: &[u8]) -> Option<u64>
-    ensures { IsRead (λ n. (1 ≤ n) × (n < 2 ^ 64)) decimal digits.now result }
+    ensures { IsReadField (λ n. (1 ≤ n) × (n < 2 ^ 64)) decimal digits.now result }
 {
     number_from_one(digits, u64::MAX)
 }

@@ -4,7 +4,7 @@ ghost use Rattle.std.specs.Option.{option_map};
 ghost use Rattle.ql_lines.specs.Fields.{fields_of};
 ghost use Rattle.ql_cnf.specs.Literals.{IsAscendingByVariable};
 ghost use Rattle.ql_cert.specs.Spelling.{IsClause, IsHint, IsLine, body_fields, clause_fields, colon, hint_field, lit_field};
-ghost use Rattle.ql_cert.specs.Readings.{IsClauseBefore, IsNext, IsRead, before_colon};
+ghost use Rattle.ql_cert.specs.Readings.{IsClauseBefore, IsNext, IsReadField, before_colon};
 
 use crate::fields::{hint, literal};
 use ql_base::NoMemory;
@@ -15,7 +15,7 @@ use std::alloc::Global;
 
 /// What follows a line's number: literals, a colon and hints.
 pub(crate) fn line_body(alloc: Global, text: &[u8]) -> Result<Option<Line>, NoMemory>
-    ensures { IfOk result (λ line. IsRead IsLine body_fields (fields_of text.now) line) }
+    ensures { IfOk result (λ line. IsReadField IsLine body_fields (fields_of text.now) line) }
 {
     let Some((clause, rest)) = clause_before_colon(alloc, text)? else {
         return Ok(None);
@@ -35,7 +35,7 @@ pub(crate) fn clause_before_colon(
     text: &[u8],
 ) -> Result<Option<(Clause, &[u8])>, NoMemory>
     ensures { IfOk result
-        (λ found. IsRead IsClauseBefore before_colon (fields_of text.now)
+        (λ found. IsReadField IsClauseBefore before_colon (fields_of text.now)
         (option_map (λ x. (x.0, fields_of x.1.now)) found)) }
 {
     let mut literals = Vec::new(alloc);
@@ -62,7 +62,7 @@ fn is_colon(field: &[u8]) -> bool
 // The literal that a field spells, if its variable is greater than that of the literal before it.
 fn next_literal(field: &[u8], before: &[Lit]) -> Option<Lit>
     requires { IsAscendingByVariable before.now }
-    ensures { IsRead (IsNext before.now) lit_field field.now result }
+    ensures { IsReadField (IsNext before.now) lit_field field.now result }
 {
     let next = literal(field)?;
     if goes_on(before, next) {
@@ -83,7 +83,7 @@ fn goes_on(before: &[Lit], next: Lit) -> bool
 /// All literals of a line.
 pub(crate) fn literals(alloc: Global, text: &[u8]) -> Result<Option<Vec<Lit>>, NoMemory>
     ensures { IfOk result
-        (λ found. IsRead IsClause clause_fields (fields_of text.now)
+        (λ found. IsReadField IsClause clause_fields (fields_of text.now)
         (option_map (λ c. c.items) found)) }
 {
     let mut literals = Vec::new(alloc);
@@ -101,7 +101,7 @@ pub(crate) fn literals(alloc: Global, text: &[u8]) -> Result<Option<Vec<Lit>>, N
 // All hints of a line.
 fn hints(alloc: Global, text: &[u8]) -> Result<Option<Vec<Hint>>, NoMemory>
     ensures { IfOk result
-        (λ found. IsRead (AllByRecursion IsHint) (map hint_field) (fields_of text.now)
+        (λ found. IsReadField (AllByRecursion IsHint) (map hint_field) (fields_of text.now)
         (option_map (λ h. h.items) found)) }
 {
     let mut hints = Vec::new(alloc);

@@ -3,11 +3,11 @@ ghost use Rattle.std.specs.Option.{option_map};
 ghost use Rattle.ql_lines.specs.Answers.{IsLineAnswer};
 ghost use Rattle.ql_lines.specs.Fields.{fields_of};
 ghost use Rattle.ql_cert.specs.declared.proof_reader.ProofReading.TheVariants.{Unbegun, Within};
-ghost use Rattle.ql_cert.specs.Faults.{Closes, Gives};
+ghost use Rattle.ql_cert.specs.Faults.{ClosesSaid, Gives};
 ghost use Rattle.ql_cert.specs.OneLine.{closes_one, closes_some, gives_one, gives_some};
 ghost use Rattle.ql_cert.specs.OneProofLine.{one_after, stays_sound};
 ghost use Rattle.ql_cert.specs.ProofFile.{ProofTakes, clause_count, most_variables, proof_said, variables_line};
-ghost use Rattle.ql_cert.specs.Readings.{IsRead, two};
+ghost use Rattle.ql_cert.specs.Readings.{IsReadField, two};
 
 use crate::cert_reader::is_end;
 use crate::fault::CertRule;
@@ -52,7 +52,7 @@ impl LineFormat for ProofFormat {
 
     ghost gives = { λ f read l x. Gives ProofTakes read (fields_of l.text) x };
 
-    ghost closes = { λ f read end x. Closes (proof_said read) end x };
+    ghost closes = { λ f read end x. ClosesSaid (proof_said read) end x };
 
     fn start(&self) -> ProofReading {
         ProofReading::Unbegun
@@ -115,7 +115,7 @@ fn begun(alloc: Global, text: &[u8]) -> Result<ProofReading, LineFault<CertRule>
 // The number of variables on the first line.
 #[tactic(auto, using(crate::proofs::ProofRefusals::not_two))]
 fn variables(text: &[u8]) -> Option<u32>
-    ensures { IsRead (λ n. n ≤ most_variables) variables_line (fields_of text.now) result }
+    ensures { IsReadField (λ n. n ≤ most_variables) variables_line (fields_of text.now) result }
 {
     let Some((word, number)) = two_fields(text) else {
         return None;
@@ -131,7 +131,7 @@ fn variables(text: &[u8]) -> Option<u32>
 
 // The fields of a line that has two.
 fn two_fields(text: &[u8]) -> Option<(&[u8], &[u8])>
-    ensures { IsRead (λ _. Unit {0}) two (fields_of text.now)
+    ensures { IsReadField (λ _. Unit {0}) two (fields_of text.now)
         (option_map (λ x. (x.0.now, x.1.now)) result) }
 {
     let (a, rest) = first_field(text)?;

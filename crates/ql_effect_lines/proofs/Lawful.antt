@@ -23,7 +23,7 @@ use Rattle.ql_effect_lines.specs.declared.effect_line.EffectLine.{EffectLine}
 use Rattle.ql_effect_lines.specs.declared.rules.ReportRule.{ReportRule}
 use Rattle.ql_effect_lines.specs.declared.rules.ReportRule.TheVariants.{Unknown, Mixed, Stamp, TooMany}
 use Rattle.ql_effect_lines.specs.declared.effects_read.EffectsRead.{EffectsRead}
-use Rattle.ql_effect_lines.specs.Effects.{AreOfProgram, IsSound, after_effect, after_known, draft_of_line, is_mixed, member_of_line, most_effects, object_number, with_draft, exec_rule, with_read_effect, with_object_name}
+use Rattle.ql_effect_lines.specs.Effects.{AreOfProgram, IsSoundRead, after_effect, after_known, draft_of_line, is_mixed, member_of_line, most_effects, object_number, with_draft, exec_rule, with_read_effect, with_object_name}
 
 -- what is true of all is true of the one that is found
 pub found : {X : Type 0} (p : X → Bool) (P : X → Type 0) (xs : List X) (x : X) → find p xs ≡ Some x → All P xs → P x
@@ -114,7 +114,7 @@ module _ (p : Program) (read more : EffectsRead) (e : EffectLine) where
   is_lawful h = with_place (op_place p.types e.op) refl h
 
   -- what is read stays sound
-  pub stays_sound : IsSound p read → after_effect p read e ≡ Ok more → IsSound p more
+  pub stays_sound : IsSoundRead p read → after_effect p read e ≡ Ok more → IsSoundRead p more
   stays_sound sound h =
       let is = is_lawful h in
       let effect = effect_of read.effects is.draft in

@@ -31,8 +31,8 @@ abbrev pub AreOfProgram : Program → List Effect → Type 0
 AreOfProgram p x = All (λ e. e.op.0 < length (all_ops p.types)) x
 
 -- the effects are few, and of the program's operations; each names one object at most
-abbrev pub IsSound : Program → EffectsRead → Type 0
-IsSound p read = (length read.effects ≤ most_effects) × AreOfProgram p read.effects × (length read.objects ≤ length read.effects)
+abbrev pub IsSoundRead : Program → EffectsRead → Type 0
+IsSoundRead p read = (length read.effects ≤ most_effects) × AreOfProgram p read.effects × (length read.objects ≤ length read.effects)
 
 -- ---- names
 

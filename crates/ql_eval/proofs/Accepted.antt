@@ -17,7 +17,7 @@ use Rattle.ql_typing.specs.Faults.{unless}
 use Rattle.ql_typing.specs.Kinds.{base_only, begins_at, call_faults, chosen_kind, combined_kind, count_faults, faults_of, gives_of, head_faults, is_base, kept_kind, kind_in, kind_of, kind_where, left_faults, meets, mismatch, operand_faults, operand_of, other_kind, reading_faults, result_of, same_kind, second_of, signature_at, third_of, unfit}
 use Rattle.ql_typing.proofs.Parts.{left_none, right_none, reported_true}
 use Rattle.ql_eval.specs.Evaluation.{value_of}
-use Rattle.ql_eval.specs.ValueKinds.{HasValue, IsAccepted}
+use Rattle.ql_eval.specs.ValueKinds.{HasValue, HasExpectedKind}
 use Rattle.ql_eval.proofs.NeverStuck.{meets_is, never_stuck}
 
 -- a kind that is told
@@ -213,7 +213,7 @@ has_a_kind scope (e.Negating at a) h =
     kept_reported kind.Int (begins_at a) (kind_of scope a) (has_a_kind scope a (left_none (faults_of scope a) _ h)) (right_none (faults_of scope a) _ h)
 
 -- what typing accepts has a value of the wanted kind
-pub accepted : (x : Expression) → IsAccepted x
+pub accepted : (x : Expression) → HasExpectedKind x
 accepted x scope env wanted fits h =
     let t = has_a_kind scope x (left_none (faults_of scope x) _ h) in
     let m = met wanted (begins_at x) (kind_of scope x) t (right_none (faults_of scope x) _ h) in

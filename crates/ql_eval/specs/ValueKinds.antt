@@ -56,5 +56,5 @@ abbrev pub IsNeverStuck : Expression → Type 0
 IsNeverStuck e = (scope : List Known) (env : Bindings) → FitsScope scope env → HasValue (kind_of scope e) (value_of env e)
 
 -- an expression without faults, of which a kind is expected, has a value of that kind
-abbrev pub IsAccepted : Expression → Type 0
-IsAccepted e = (scope : List Known) (env : Bindings) (wanted : Kind) → FitsScope scope env → faults_as scope (Some wanted) e ≡ [] → HasValue (Some wanted) (value_of env e)
+abbrev pub HasExpectedKind : Expression → Type 0
+HasExpectedKind e = (scope : List Known) (env : Bindings) (wanted : Kind) → FitsScope scope env → faults_as scope (Some wanted) e ≡ [] → HasValue (Some wanted) (value_of env e)

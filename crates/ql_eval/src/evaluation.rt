@@ -1,7 +1,7 @@
 ghost use Rattle.std.specs.Prelude.{◌≡◌, IfOk, IfSome, IsSome, Some, drop};
 ghost use Rattle.std.specs.Option.{option_copied};
 ghost use Rattle.ql_lang.specs.Expressions.{expression_of, operands_in, operands_of};
-ghost use Rattle.ql_eval.specs.ValueKinds.{IsAccepted, IsNeverStuck};
+ghost use Rattle.ql_eval.specs.ValueKinds.{HasExpectedKind, IsNeverStuck};
 ghost use Rattle.ql_eval.specs.Evaluation.{Bindings, call_value, called_on, truth_in, value_in, value_of, values_of};
 
 use crate::call::{with_one, with_three, with_two};
@@ -21,7 +21,7 @@ pub fn eval(alloc: Global, e: &Expr, env: &Env) -> Result<Value, NoMemory>
     requires { IsSome (value_of env.now (expression_of e.now)) }
     ensures value { IfOk result (λ value. value_of env.now (expression_of e.now) ≡ Some value) }
     ensures never_stuck { IsNeverStuck (expression_of e.now) }
-    ensures accepted { IsAccepted (expression_of e.now) }
+    ensures accepted { HasExpectedKind (expression_of e.now) }
 {
     match evaluate(alloc, &Scope::of(env.items()), e)? {
         Some(value) => Ok(value),

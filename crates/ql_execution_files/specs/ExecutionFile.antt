@@ -13,7 +13,7 @@ use Rattle.ql_effect_lines.specs.declared.rules.ReportRule.{ReportRule}
 use Rattle.ql_effect_lines.specs.declared.rules.ReportRule.TheVariants.{Unexpected, Unknown, Mixed, Stamp, NotForward, OtherObject, SplitTxn, TooMany}
 use Rattle.ql_effect_lines.specs.declared.effects_read.EffectsRead.{EffectsRead}
 use Rattle.ql_effect_lines.specs.EffectLine.{IsEffectLine}
-use Rattle.ql_effect_lines.specs.Effects.{IsSound, after_effect}
+use Rattle.ql_effect_lines.specs.Effects.{IsSoundRead, after_effect}
 use Rattle.ql_execution_files.specs.declared.format.ExecutionReading.{ExecutionReading}
 use Rattle.ql_execution_files.specs.declared.format.ExecutionReading.TheVariants.{Unbegun, WithEffects, Ended}
 use Rattle.ql_execution_files.specs.declared.report_fault.ReportFault.{ReportFault}
@@ -89,8 +89,8 @@ ClosesExecution other end x = x ≡ Err (record { line = end; rule = Unexpected 
 -- what lines say is sound
 abbrev pub AreSound : Program → ExecutionReading → Type 0
 AreSound p Unbegun = Unit {0}
-AreSound p (WithEffects read) = IsSound p read
-AreSound p (Ended read) = IsSound p read
+AreSound p (WithEffects read) = IsSoundRead p read
+AreSound p (Ended read) = IsSoundRead p read
 
 -- ---- the files
 
@@ -113,9 +113,9 @@ fault_at OtherObject line = fault.OtherObject line
 fault_at SplitTxn line = fault.SplitTxn line
 fault_at TooMany line = fault.TooMany line
 
-abbrev pub fault_of : FileFault ReportRule → ReportFault
-fault_of (file.Broken broken) = fault_at broken.rule broken.line
-fault_of file.NoMemory = fault.NoMemory
+abbrev pub report_fault_of : FileFault ReportRule → ReportFault
+report_fault_of (file.Broken broken) = fault_at broken.rule broken.line
+report_fault_of file.NoMemory = fault.NoMemory
 
 -- the first fault of a file: its first line that breaks a rule, or that the file ends too early
 pub record FirstExecutionFault (p : Program) (file : Ahead) (f : ReportFault) : Type 0 where

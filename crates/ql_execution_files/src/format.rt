@@ -2,7 +2,7 @@ ghost use Rattle.std.specs.Prelude.{◌≡◌, ◌∷◌, ◌↔◌, ◌<◌, �
 ghost use Rattle.ql_lang.specs.declared.program.Program.{Program};
 ghost use Rattle.ql_lines.specs.Answers.{IsLineAnswer};
 ghost use Rattle.ql_lines.specs.Fields.{fields_of};
-ghost use Rattle.ql_effect_lines.specs.Effects.{IsSound};
+ghost use Rattle.ql_effect_lines.specs.Effects.{IsSoundRead};
 ghost use Rattle.ql_execution_files.specs.declared.format.ExecutionReading.TheVariants.{Unbegun, WithEffects};
 ghost use Rattle.ql_execution_files.specs.ExecutionFile.{AreSound, ClosesExecution, ExtendsExecution, IsNextEffect};
 ghost use Rattle.ql_execution_files.specs.OneLine.{closes_one, closes_some, gives_one, gives_some, takes_sound};
@@ -112,7 +112,7 @@ fn one_more(
     read: EffectsRead,
     text: &[u8],
 ) -> Result<ExecutionReading, LineFault<ReportRule>>
-    requires sound { IsSound t.now.program read }
+    requires sound { IsSoundRead t.now.program read }
     ensures { IsLineAnswer (ExtendsExecution t.now.program (WithEffects read) text.now) result }
 {
     if is_word(text, b"end") {

@@ -1,5 +1,5 @@
 ghost use Rattle.std.specs.Prelude.{◌≡◌};
-ghost use Rattle.ql_execution_files.specs.ExecutionFile.{fault_of};
+ghost use Rattle.ql_execution_files.specs.ExecutionFile.{report_fault_of};
 
 use ql_effect_lines::ReportRule;
 use ql_lines::{Broken, FileFault};
@@ -32,7 +32,7 @@ pub enum ReportFault {
 
 /// The public form of a fault.
 pub(crate) fn fault_of(fault: FileFault<ReportRule>) -> ReportFault
-    ensures { result ≡ fault_of fault }
+    ensures { result ≡ report_fault_of fault }
 {
     let FileFault::Broken(Broken { line, rule }) = fault else {
         return ReportFault::NoMemory;

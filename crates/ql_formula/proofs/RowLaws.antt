@@ -14,7 +14,7 @@ use Rattle.ql_exec.proofs.Finding.{effect_at-within, both-found, so_parts}
 use Rattle.ql_formula.specs.declared.rows.Closure.{Closure}
 use Rattle.ql_formula.specs.declared.rows.Closure.TheVariants.{OnOneObject, Across}
 use Rattle.ql_formula.specs.declared.rows.Key.{Key}
-use Rattle.ql_formula.specs.Tables.{row_has, cell, IsRow, AreRows, GoesForward, IsClosedPart, IsLastBefore, step_of, key_of, follows}
+use Rattle.ql_formula.specs.Tables.{row_has, cell, IsTableRow, AreRows, GoesForward, IsClosedPart, IsLastBefore, step_of, key_of, follows}
 use Rattle.ql_exec.proofs.Chains.{leads-cases, leads-step, leads-more}
 use Rattle.ql_formula.proofs.Closures.{leads-less, leads-join, leads-last, leads-first}
 
@@ -178,7 +178,7 @@ none_yet step n = record {
   closed = λ j k chain is. absurd (both_ways (get_or (replicate n false) k false) (none_marked n k) is);
 }
 
-pub part_with : (step : ℕ → ℕ → Bool) → GoesForward step → (old new earlier : List Bool) → IsRow (leads step) (suc (length earlier)) earlier
+pub part_with : (step : ℕ → ℕ → Bool) → GoesForward step → (old new earlier : List Bool) → IsTableRow (leads step) (suc (length earlier)) earlier
     → step (suc (length earlier)) (suc (length old)) ≡ true → length new ≡ length old
     → ((k : ℕ) → get_or new k false ≡ (get_or old k false || (nat_eq k (length earlier) || get_or earlier k false)))
     → IsClosedPart step old → IsClosedPart step new
@@ -220,7 +220,7 @@ part_with step forward old new earlier row is_step same_length united known = re
     closed j k chain (inr (inr more)) = back j (inr (inr (leads-join step forward (suc j) (suc k) (suc n) chain more)))
 
 pub row_done : (step : ℕ → ℕ → Bool) → GoesForward step → (row : List Bool) → IsClosedPart step row
-    → ((k : ℕ) → step (suc k) (suc (length row)) ≡ true → get_or row k false ≡ true) → IsRow (leads step) (suc (length row)) row
+    → ((k : ℕ) → step (suc k) (suc (length row)) ≡ true → get_or row k false ≡ true) → IsTableRow (leads step) (suc (length row)) row
 row_done step forward row known all = (refl, λ k. same_Bool (get_or row k false) (leads step (suc k) (suc (length row))) (known.reached k) (from k))
   where
     from : (k : ℕ) → leads step (suc k) (suc (length row)) ≡ true → get_or row k false ≡ true
@@ -303,12 +303,12 @@ some_too None P Q each is = is
 some_too (Some k) P Q each is = each k is
 
 -- ---- rows of a relation
-pub rows_push : (rel : ℕ → ℕ → Bool) (rows : List (List Bool)) (row : List Bool) → AreRows rel rows → IsRow rel (suc (length rows)) row → AreRows rel (rows ++ row ∷ [])
+pub rows_push : (rel : ℕ → ℕ → Bool) (rows : List (List Bool)) (row : List Bool) → AreRows rel rows → IsTableRow rel (suc (length rows)) row → AreRows rel (rows ++ row ∷ [])
 rows_push rel rows row known one m within = elim (cases_lt m (length rows)) [
-  | inl inside ↦ subst (λ (r : List Bool). IsRow rel (suc m) r) (sym (get_or_append_left rows (row ∷ []) [] m inside)) (known m inside)
+  | inl inside ↦ subst (λ (r : List Bool). IsTableRow rel (suc m) r) (sym (get_or_append_left rows (row ∷ []) [] m inside)) (known m inside)
   | inr past ↦
       let same : length rows ≡ m = omega (arith, within, past, length-append rows (row ∷ [])) in
-      subst (λ (r : List Bool). IsRow rel (suc m) r) (sym (get_or_push rows row [] m same)) (subst (λ (n : ℕ). IsRow rel (suc n) row) same one)
+      subst (λ (r : List Bool). IsTableRow rel (suc m) r) (sym (get_or_push rows row [] m same)) (subst (λ (n : ℕ). IsTableRow rel (suc n) row) same one)
 ]
 
 pub cell_is : (rel : ℕ → ℕ → Bool) (rows : List (List Bool)) (n : ℕ) → AreRows rel rows → length rows ≡ n

@@ -75,12 +75,12 @@ IsTableOf t x = (name : RelName) (a b : ℕ) → named_in t name a b ≡ named x
 -- ---- how it is made
 
 -- the row of b says which earlier effects are related to b
-abbrev pub IsRow : (ℕ → ℕ → Bool) → ℕ → List Bool → Type 0
-IsRow rel b row = (suc (length row) ≡ b) × ((k : ℕ) → slice_index_or row k false ≡ rel (suc k) b)
+abbrev pub IsTableRow : (ℕ → ℕ → Bool) → ℕ → List Bool → Type 0
+IsTableRow rel b row = (suc (length row) ≡ b) × ((k : ℕ) → slice_index_or row k false ≡ rel (suc k) b)
 
 -- these are the rows of the first effects
 abbrev pub AreRows : (ℕ → ℕ → Bool) → List (List Bool) → Type 0
-AreRows rel rows = (m : ℕ) → m < length rows → IsRow rel (suc m) (slice_index_or rows m [])
+AreRows rel rows = (m : ℕ) → m < length rows → IsTableRow rel (suc m) (slice_index_or rows m [])
 
 abbrev pub step_of : Closure → List Effect → ℕ → ℕ → Bool
 step_of OnOneObject x a b = hbo_step x a b

@@ -1,7 +1,7 @@
 ghost use Rattle.std.specs.Prelude.{◌≡◌, ◌<◌, ◌≤◌, ◌||◌, true, suc, length, take, IfOk, OnOk, IfSome, slice_index_or, nat_eq, false, map, ℕ, Bool, []};
 ghost use Rattle.ql_exec.specs.Relations.{vis, leads};
 ghost use Rattle.ql_exec.specs.Execution.{IsExecution};
-ghost use Rattle.ql_formula.specs.Tables.{IsRow, AreRows, GoesForward, IsClosedPart, HasLasts, step_of, key_of};
+ghost use Rattle.ql_formula.specs.Tables.{IsTableRow, AreRows, GoesForward, IsClosedPart, HasLasts, step_of, key_of};
 ghost use Rattle.ql_base.specs.IdLists.{has_id};
 
 use crate::lasts::Lasts;
@@ -54,7 +54,7 @@ pub(crate) fn vis_rows(alloc: Global, effects: &[Effect]) -> Result<Vec<Row>, No
 fn vis_row(alloc: Global, effects: &[Effect], k: usize) -> Result<Row, NoMemory>
     requires execution { IsExecution effects.now }
     requires within { k < length effects.now }
-    ensures { IfOk result (λ row. IsRow (vis effects.now) (suc k) row) }
+    ensures { IfOk result (λ row. IsTableRow (vis effects.now) (suc k) row) }
 {
     let mut row = Row::empty(alloc, k)?;
     mark(&mut row, effects[k].seen.items());
@@ -109,7 +109,7 @@ fn closure_row(
     requires rows { AreRows (leads (step_of lasts.old.closure effects.now)) rows.now }
     requires lasts { HasLasts lasts.old (take (length rows.now) keys.now) }
     ensures row { IfOk result
-        (λ row. IsRow (leads (step_of lasts.old.closure effects.now)) (suc (length rows.now)) row) }
+        (λ row. IsTableRow (leads (step_of lasts.old.closure effects.now)) (suc (length rows.now)) row) }
     ensures closure { lasts.new.closure ≡ lasts.old.closure }
     ensures lasts { OnOk result (HasLasts lasts.new (take (suc (length rows.now)) keys.now)) }
 {
@@ -163,7 +163,7 @@ fn visit(row: &mut Row, earlier: &Row)
         → slice_index_or row.new k false ≡ true }
     ensures has { slice_index_or row.new (length earlier.now) false ≡ true }
     ensures closed { (step : ℕ → ℕ → Bool) → GoesForward step
-        → IsRow (leads step) (suc (length earlier.now)) earlier.now
+        → IsTableRow (leads step) (suc (length earlier.now)) earlier.now
         → step (suc (length earlier.now)) (suc (length row.old)) ≡ true
         → IsClosedPart step row.old → IsClosedPart step row.new }
 {

@@ -21,14 +21,14 @@ use Rattle.ql_machine.specs.declared.event.Event.{Event}
 use Rattle.ql_machine.specs.declared.event.Event.TheVariants.{Begin, Call, Commit, Deliver, Heal, Join, Lose, Partition, Repeat, Resend}
 use Rattle.ql_machine.specs.Runs.{replicas_after}
 use Rattle.ql_schedule.specs.Guarantees.{AreFit, FitsEvent, IsCaller, IsOfVersion, IsSchedule}
-use Rattle.ql_gen.specs.Draws.{draw, next}
-use Rattle.ql_gen.specs.Events.{arg_of, args_of, begin_of, call_at, call_of, event_of, network_of, op_of, replica_of, session_of}
+use Rattle.ql_gen.specs.Draws.{draw, next_draw}
+use Rattle.ql_gen.specs.Events.{arg_of, args_of, begin_of, call_at, drawn_call, drawn_event, network_of, op_of, drawn_replica, drawn_session}
 use Rattle.ql_gen.specs.Generated.{generated, generated_events, state_after}
 use Rattle.ql_gen.specs.Objects.{first_objects, object_kinds, drawn_object_names}
 use Rattle.ql_gen.proofs.ObjectLaws.{AreBelow, first_below, length_names}
 
 pub draw_below : (m x : ℕ) → 1 ≤ m → draw m x < m
-draw_below m x some = mod-lt (next x / 65536) (omega (arith, some))
+draw_below m x some = mod-lt (next_draw x / 65536) (omega (arith, some))
 
 -- ---- the types of objects
 
@@ -95,7 +95,7 @@ arg_fits base.Text x = tt
 args_fit : (ps : List Param) (x : ℕ) → AreOfKinds param_kind ps (args_of ps x)
 unfolding args_of
 args_fit [] x = tt
-args_fit (p ∷ ps) x = (arg_fits p.base x, args_fit ps (next x))
+args_fit (p ∷ ps) x = (arg_fits p.base x, args_fit ps (next_draw x))
 
 found_fits : (found : Option OpDecl) (d : OpDecl) (x : ℕ) → found ≡ Some d → AreArgs found (args_of (option_map_or (λ o. o.params) found []) x)
 found_fits found d x is =
@@ -133,20 +133,20 @@ module _ (p : Program) where
   abbrev Fits : Event → Type 0
   Fits = FitsEvent p 3 (length (drawn_object_names (length p.types))) (object_kinds (length p.types))
 
-  caller : (x : ℕ) → IsCaller p 3 (length (drawn_object_names (length p.types))) (object_kinds (length p.types)) (session_of x) (replica_of x)
+  caller : (x : ℕ) → IsCaller p 3 (length (drawn_object_names (length p.types))) (object_kinds (length p.types)) (drawn_session x) (drawn_replica x)
   caller x = record {
     is_session = (let less : draw 4 x < 4 = draw_below 4 x (omega arith) in omega (arith, less));
-    is_replica = draw_below 3 (next x) (omega arith);
+    is_replica = draw_below 3 (next_draw x) (omega arith);
   }
 
   call_fits : (x : ℕ) → nat_eq (length (all_ops p.types)) 0 ≡ false
-      → Fits (call_at p (session_of x) (replica_of x) (op_of p (next (next x))) (draw 2 (next (next (next x)))) (next (next (next (next x)))))
+      → Fits (call_at p (drawn_session x) (drawn_replica x) (op_of p (next_draw (next_draw x))) (draw 2 (next_draw (next_draw (next_draw x)))) (next_draw (next_draw (next_draw (next_draw x)))))
   call_fits x other =
       let count = length (all_ops p.types) in
-      let o = op_of p (next (next x)) in
-      let k = draw 2 (next (next (next x))) in
-      let is_op : o < count = draw_below count (next (next x)) (positive count other) in
-      let is_k : k < 2 = draw_below 2 (next (next (next x))) (omega arith) in
+      let o = op_of p (next_draw (next_draw x)) in
+      let k = draw 2 (next_draw (next_draw (next_draw x))) in
+      let is_op : o < count = draw_below count (next_draw (next_draw x)) (positive count other) in
+      let is_k : k < 2 = draw_below 2 (next_draw (next_draw (next_draw x))) (omega arith) in
       let op = found (all_ops p.types) o is_op in
       let kinds = op_kinds p.types in
       let long : length kinds ≡ count = length-kinds 0 p.types in
@@ -159,10 +159,10 @@ module _ (p : Program) where
         is_object = omega (arith, below, is_k, length_names (length p.types));
         is_op = is_op;
         type = ap (option_map (λ t. t.0)) (type_at (length p.types) j k below is_k) ∙ sym kind;
-        arguments = found_fits (slice_get (all_ops p.types) o) op.0 (next (next (next (next x)))) op.1;
+        arguments = found_fits (slice_get (all_ops p.types) o) op.0 (next_draw (next_draw (next_draw (next_draw x)))) op.1;
       }
 
-  call_of_fits : (x : ℕ) → Fits (call_of p x)
+  call_of_fits : (x : ℕ) → Fits (drawn_call p x)
   call_of_fits x = if_both (nat_eq (length (all_ops p.types)) 0) Fits _ _ (λ none. tt) (call_fits x)
 
   firsts : (ids : List ℕ) (n : ℕ) → AreBelow ids n → (m : ℕ) → n ≡ m → AllByRecursion (λ o. o < m) ids
@@ -172,7 +172,7 @@ module _ (p : Program) where
   begin_fits : (x : ℕ) → Fits (begin_of p x)
   begin_fits x = if_both (nat_eq (length p.txns) 0) Fits _ _ (λ none. tt) (λ some. (
     caller x,
-    draw_below (length p.txns) (next (next x)) (positive (length p.txns) some),
+    draw_below (length p.txns) (next_draw (next_draw x)) (positive (length p.txns) some),
     firsts (first_objects (length p.types)) (2 * length p.types) (first_below (length p.types)) (length (drawn_object_names (length p.types))) (omega (arith, length_names (length p.types))),
   ))
 
@@ -181,17 +181,17 @@ module _ (p : Program) where
       if_both (nat_eq (draw 4 x) 0) Fits _ _ (λ split. refl) (λ other.
       if_both (nat_eq (draw 4 x) 1) Fits _ _ (λ heal. tt) (λ more. if_both (nat_eq (draw 4 x) 2) Fits _ _ (λ lose. tt) (λ repeat. tt)))
 
-  event_fits : (j x : ℕ) → Fits (event_of p j x)
+  event_fits : (j x : ℕ) → Fits (drawn_event p j x)
   event_fits j x =
       let k = draw 12 x in
-      let s = next x in
+      let s = next_draw x in
       if_both (nat_lt k 6) Fits _ _ (λ call. call_of_fits s) (λ other.
       if_both (nat_lt k 9) Fits _ _ (λ deliver. tt) (λ no_delivery.
       if_both (nat_eq k 9) Fits _ _ (λ network. network_fits j s) (λ no_network.
       if_both (nat_eq k 10) Fits _ _ (λ begin. begin_fits s) (λ commit. caller s))))
 
   -- no replica joins
-  call_plain : (x : ℕ) → IsOfVersion 1 (call_of p x)
+  call_plain : (x : ℕ) → IsOfVersion 1 (drawn_call p x)
   call_plain x = if_both (nat_eq (length (all_ops p.types)) 0) (IsOfVersion 1) _ _ (λ none. tt) (λ some. tt)
 
   begin_plain : (x : ℕ) → IsOfVersion 1 (begin_of p x)
@@ -202,10 +202,10 @@ module _ (p : Program) where
       if_both (nat_eq (draw 4 x) 0) (IsOfVersion 1) _ _ (λ split. tt) (λ other.
       if_both (nat_eq (draw 4 x) 1) (IsOfVersion 1) _ _ (λ heal. tt) (λ more. if_both (nat_eq (draw 4 x) 2) (IsOfVersion 1) _ _ (λ lose. tt) (λ repeat. tt)))
 
-  event_plain : (j x : ℕ) → IsOfVersion 1 (event_of p j x)
+  event_plain : (j x : ℕ) → IsOfVersion 1 (drawn_event p j x)
   event_plain j x =
       let k = draw 12 x in
-      let s = next x in
+      let s = next_draw x in
       if_both (nat_lt k 6) (IsOfVersion 1) _ _ (λ call. call_plain s) (λ other.
       if_both (nat_lt k 9) (IsOfVersion 1) _ _ (λ deliver. tt) (λ no_delivery.
       if_both (nat_eq k 9) (IsOfVersion 1) _ _ (λ network. network_plain j s) (λ no_network.
@@ -237,18 +237,18 @@ module _ (p : Program) where
     unfolding generated_events
     events_plain zero = tt
     events_plain (suc n) =
-        all_more (IsOfVersion 1) (generated_events p number n) (event_of p (suc n) (state_after p number n) ∷ []) (events_plain n) (event_plain (suc n) (state_after p number n), tt)
+        all_more (IsOfVersion 1) (generated_events p number n) (drawn_event p (suc n) (state_after p number n) ∷ []) (events_plain n) (event_plain (suc n) (state_after p number n), tt)
 
     events_fit : (n : ℕ) → AllByRecursion Fits (generated_events p number n)
     unfolding generated_events
     events_fit zero = tt
     events_fit (suc n) =
-        all_more Fits (generated_events p number n) (event_of p (suc n) (state_after p number n) ∷ []) (events_fit n) (event_fits (suc n) (state_after p number n), tt)
+        all_more Fits (generated_events p number n) (drawn_event p (suc n) (state_after p number n) ∷ []) (events_fit n) (event_fits (suc n) (state_after p number n), tt)
 
     pub length_events : (n : ℕ) → length (generated_events p number n) ≡ n
     unfolding generated_events
     length_events zero = refl
-    length_events (suc n) = omega (arith, length_events n, length-append (generated_events p number n) (event_of p (suc n) (state_after p number n) ∷ []))
+    length_events (suc n) = omega (arith, length_events n, length-append (generated_events p number n) (drawn_event p (suc n) (state_after p number n) ∷ []))
 
     pub is_schedule : (n : ℕ) → n ≤ 4000 → length p.types ≤ 16 → IsSchedule p (generated p number n)
     is_schedule n few few_types = record {

@@ -19,8 +19,8 @@ use Rattle.ql_schedule.specs.Spelled.{AreNew, IsSpelledValue}
 use Rattle.ql_schedule.proofs.ObjectNames.{new_more}
 use Rattle.ql_typing.specs.Operations.{all_ops}
 use Rattle.ql_value.specs.declared.scalar.Scalar.TheVariants as scalar
-use Rattle.ql_gen.specs.Draws.{draw, next}
-use Rattle.ql_gen.specs.Events.{arg_of, args_of, begin_of, call_of, event_of, network_of, op_of, params_of}
+use Rattle.ql_gen.specs.Draws.{draw, next_draw}
+use Rattle.ql_gen.specs.Events.{arg_of, args_of, begin_of, drawn_call, drawn_event, network_of, op_of, params_of}
 use Rattle.ql_gen.specs.Generated.{generated_events, state_after}
 use Rattle.ql_gen.specs.Objects.{first_objects, drawn_object_name, drawn_object_names}
 use Rattle.ql_gen.proofs.Lawful.{all_more, draw_below, if_both}
@@ -103,7 +103,7 @@ spelled_arg base.Text x = (scalar.Text (codes "t" ++ decimal (draw 10 x)), refl,
 spelled_args : (ps : List Param) (x : ℕ) → AllByRecursion IsSpelledValue (args_of ps x)
 unfolding args_of
 spelled_args [] x = tt
-spelled_args (p ∷ ps) x = (spelled_arg p.base x, spelled_args ps (next x))
+spelled_args (p ∷ ps) x = (spelled_arg p.base x, spelled_args ps (next_draw x))
 
 -- ---- objects of a transaction
 
@@ -148,19 +148,19 @@ module _ (p : Program) (some : 0 < length p.types) (few : length p.types ≤ 16)
   begin_spells x = if_both (nat_eq (length p.txns) 0) Spells _ _ (λ none. tt)
       (λ begin. (let long = length_firsts (length p.types) in (firsts_ascend (length p.types), omega (arith, long, some), omega (arith, long, few))))
 
-  call_spells : (x : ℕ) → Spells (call_of p x)
-  call_spells x = if_both (nat_eq (length (all_ops p.types)) 0) Spells _ _ (λ none. tt) (λ call. spelled_args (params_of p (op_of p (next (next x)))) (next (next (next (next x)))))
+  call_spells : (x : ℕ) → Spells (drawn_call p x)
+  call_spells x = if_both (nat_eq (length (all_ops p.types)) 0) Spells _ _ (λ none. tt) (λ call. spelled_args (params_of p (op_of p (next_draw (next_draw x)))) (next_draw (next_draw (next_draw (next_draw x)))))
 
   network_spells : (j x : ℕ) → 1 ≤ j → j ≤ 4000 → Spells (network_of j x)
   network_spells j x first last =
       if_both (nat_eq (draw 4 x) 0) Spells _ _ (λ split. (omega arith, (omega arith, (omega arith, tt)))) (λ other.
       if_both (nat_eq (draw 4 x) 1) Spells _ _ (λ heal. tt) (λ more.
-      if_both (nat_eq (draw 4 x) 2) Spells _ _ (λ lose. message_spells j (next x) first last) (λ repeat. message_spells j (next x) first last)))
+      if_both (nat_eq (draw 4 x) 2) Spells _ _ (λ lose. message_spells j (next_draw x) first last) (λ repeat. message_spells j (next_draw x) first last)))
 
-  event_spells : (j x : ℕ) → 1 ≤ j → j ≤ 4000 → Spells (event_of p j x)
+  event_spells : (j x : ℕ) → 1 ≤ j → j ≤ 4000 → Spells (drawn_event p j x)
   event_spells j x first last =
       let k = draw 12 x in
-      let s = next x in
+      let s = next_draw x in
       if_both (nat_lt k 6) Spells _ _ (λ call. call_spells s) (λ other.
       if_both (nat_lt k 9) Spells _ _ (λ deliver. message_spells j s first last) (λ no_delivery.
       if_both (nat_eq k 9) Spells _ _ (λ network. network_spells j s first last) (λ no_network.
@@ -170,5 +170,5 @@ module _ (p : Program) (some : 0 < length p.types) (few : length p.types ≤ 16)
   unfolding generated_events
   events_spell number zero last = tt
   events_spell number (suc n) last =
-      all_more Spells (generated_events p number n) (event_of p (suc n) (state_after p number n) ∷ []) (events_spell number n (omega (arith, last)))
+      all_more Spells (generated_events p number n) (drawn_event p (suc n) (state_after p number n) ∷ []) (events_spell number n (omega (arith, last)))
       (event_spells (suc n) (state_after p number n) (omega arith) last, tt)

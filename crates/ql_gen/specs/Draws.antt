@@ -3,9 +3,9 @@
 use Rattle.std.specs.Prelude.{ℕ, ◌+◌, ◌*◌, ◌/◌, ◌%◌, ◌^◌}
 
 -- the state after one more draw
-abbrev pub next : ℕ → ℕ
-next x = (x * 1103515245 + 12345) % 2 ^ 31
+abbrev pub next_draw : ℕ → ℕ
+next_draw x = (x * 1103515245 + 12345) % 2 ^ 31
 
 -- the next draw: the upper bits of the state after it, below m
 abbrev pub draw : ℕ → ℕ → ℕ
-draw m x = next x / 65536 % m
+draw m x = next_draw x / 65536 % m

@@ -13,21 +13,21 @@ use Rattle.ql_machine.specs.declared.event.Event.TheVariants.{Begin, Call, Commi
 use Rattle.ql_typing.specs.Operations.{all_ops, op_kinds}
 use Rattle.ql_value.specs.declared.value.Value.{Value}
 use Rattle.ql_value.specs.declared.value.Value.TheVariants.{Bool, Int, Text}
-use Rattle.ql_gen.specs.Draws.{draw, next}
+use Rattle.ql_gen.specs.Draws.{draw, next_draw}
 use Rattle.ql_gen.specs.Objects.{first_objects}
 
 -- ---- parts of events
 
 -- one of four sessions, then one of three replicas
-abbrev pub session_of : ℕ → SessId
-session_of x = record { 0 = draw 4 x }
+abbrev pub drawn_session : ℕ → SessId
+drawn_session x = record { 0 = draw 4 x }
 
-abbrev pub replica_of : ℕ → ReplicaId
-replica_of x = record { 0 = draw 3 (next x) }
+abbrev pub drawn_replica : ℕ → ReplicaId
+drawn_replica x = record { 0 = draw 3 (next_draw x) }
 
 -- one of the first j messages, for event j
-abbrev pub message_of : ℕ → ℕ → MsgId
-message_of j x = record { 0 = suc (draw j x) }
+abbrev pub drawn_message : ℕ → ℕ → MsgId
+drawn_message j x = record { 0 = suc (draw j x) }
 
 -- ---- calls
 
@@ -38,12 +38,12 @@ arg_of base.Text x = Text (codes "t" ++ decimal (draw 10 x))
 
 unfoldable pub args_of : List Param → ℕ → List Value
 args_of [] x = []
-args_of (p ∷ ps) x = arg_of p.base x ∷ args_of ps (next x)
+args_of (p ∷ ps) x = arg_of p.base x ∷ args_of ps (next_draw x)
 
 -- the state after an argument for each parameter
 unfoldable pub after_args : List Param → ℕ → ℕ
 after_args [] x = x
-after_args (p ∷ ps) x = after_args ps (next x)
+after_args (p ∷ ps) x = after_args ps (next_draw x)
 
 module _ (p : Program) where
   abbrev pub op_of : ℕ → ℕ
@@ -59,23 +59,23 @@ module _ (p : Program) where
 
   -- a session, a replica, an operation, which of the two objects, and an argument for each parameter; `heal` if there
   -- is no operation
-  abbrev pub call_of : ℕ → Event
-  call_of x = if nat_eq (length (all_ops p.types)) 0 then Heal
-      else call_at (session_of x) (replica_of x) (op_of (next (next x))) (draw 2 (next (next (next x)))) (next (next (next (next x))))
+  abbrev pub drawn_call : ℕ → Event
+  drawn_call x = if nat_eq (length (all_ops p.types)) 0 then Heal
+      else call_at (drawn_session x) (drawn_replica x) (op_of (next_draw (next_draw x))) (draw 2 (next_draw (next_draw (next_draw x)))) (next_draw (next_draw (next_draw (next_draw x))))
 
   abbrev pub after_call : ℕ → ℕ
   after_call x = if nat_eq (length (all_ops p.types)) 0 then x
-      else after_args (params_of (op_of (next (next x)))) (next (next (next (next x))))
+      else after_args (params_of (op_of (next_draw (next_draw x)))) (next_draw (next_draw (next_draw (next_draw x))))
 
   -- ---- transactions
 
   -- a session, a replica and a transaction, on the first object of each type; `heal` if there is no transaction
   abbrev pub begin_of : ℕ → Event
   begin_of x = if nat_eq (length p.txns) 0 then Heal
-      else Begin (session_of x) (replica_of x) (record { 0 = draw (length p.txns) (next (next x)) }) (first_objects (length p.types))
+      else Begin (drawn_session x) (drawn_replica x) (record { 0 = draw (length p.txns) (next_draw (next_draw x)) }) (first_objects (length p.types))
 
-  abbrev pub after_begin : ℕ → ℕ
-  after_begin x = if nat_eq (length p.txns) 0 then x else next (next (next x))
+  abbrev pub after_drawn_begin : ℕ → ℕ
+  after_drawn_begin x = if nat_eq (length p.txns) 0 then x else next_draw (next_draw (next_draw x))
 
 -- ---- the network
 
@@ -83,31 +83,31 @@ abbrev pub network_of : ℕ → ℕ → Event
 network_of j x =
     if nat_eq (draw 4 x) 0 then Partition (0 ∷ 0 ∷ 1 ∷ [])
     else if nat_eq (draw 4 x) 1 then Heal
-    else if nat_eq (draw 4 x) 2 then Lose (message_of j (next x)) else Repeat (message_of j (next x))
+    else if nat_eq (draw 4 x) 2 then Lose (drawn_message j (next_draw x)) else Repeat (drawn_message j (next_draw x))
 
 abbrev pub after_network : ℕ → ℕ
-after_network x = if nat_lt (draw 4 x) 2 then next x else next (next x)
+after_network x = if nat_lt (draw 4 x) 2 then next_draw x else next_draw (next_draw x)
 
 -- ---- events, each of one of twelve kinds
 
 module _ (p : Program) where
   abbrev pub event_of_kind : ℕ → ℕ → ℕ → Event
   event_of_kind j k x =
-      if nat_lt k 6 then call_of p x
-      else if nat_lt k 9 then Deliver (message_of j x)
+      if nat_lt k 6 then drawn_call p x
+      else if nat_lt k 9 then Deliver (drawn_message j x)
       else if nat_eq k 9 then network_of j x
-      else if nat_eq k 10 then begin_of p x else Commit (session_of x) (replica_of x)
+      else if nat_eq k 10 then begin_of p x else Commit (drawn_session x) (drawn_replica x)
 
   abbrev pub after_kind : ℕ → ℕ → ℕ
   after_kind k x =
       if nat_lt k 6 then after_call p x
-      else if nat_lt k 9 then next x
+      else if nat_lt k 9 then next_draw x
       else if nat_eq k 9 then after_network x
-      else if nat_eq k 10 then after_begin p x else next (next x)
+      else if nat_eq k 10 then after_drawn_begin p x else next_draw (next_draw x)
 
   -- event j, counted from 1
-  abbrev pub event_of : ℕ → ℕ → Event
-  event_of j x = event_of_kind j (draw 12 x) (next x)
+  abbrev pub drawn_event : ℕ → ℕ → Event
+  drawn_event j x = event_of_kind j (draw 12 x) (next_draw x)
 
-  abbrev pub after_event : ℕ → ℕ
-  after_event x = after_kind (draw 12 x) (next x)
+  abbrev pub after_drawn_event : ℕ → ℕ
+  after_drawn_event x = after_kind (draw 12 x) (next_draw x)

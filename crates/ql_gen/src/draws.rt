@@ -1,5 +1,5 @@
 ghost use Rattle.std.specs.Prelude.{◌≡◌, ◌<◌, ◌≤◌};
-ghost use Rattle.ql_gen.specs.Draws.{draw, next};
+ghost use Rattle.ql_gen.specs.Draws.{draw, next_draw};
 
 use std::marker::Model;
 
@@ -29,7 +29,7 @@ impl Draws {
         requires { 1 ≤ most }
         ensures drawn { result ≡ draw most self.old }
         ensures below { result < most }
-        ensures state { self.new ≡ next self.old }
+        ensures state { self.new ≡ next_draw self.old }
     {
         let state = (u64::from(self.state) * 1_103_515_245 + 12_345) % (1 << 31);
         self.state = state as u32;

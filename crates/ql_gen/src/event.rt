@@ -1,21 +1,21 @@
 ghost use Rattle.std.specs.Prelude.{◌≡◌, ◌≤◌, ◌<◌, ◌++◌, IfOk, OnOk, codes, decimal, length};
 ghost use Rattle.ql_gen.specs.Events.{
   after_args,
-  after_begin,
+  after_drawn_begin,
   after_call,
-  after_event,
+  after_drawn_event,
   after_network,
   arg_of,
   args_of,
   begin_of,
-  call_of,
-  event_of,
-  message_of,
+  drawn_call,
+  drawn_event,
+  drawn_message,
   network_of,
-  replica_of,
-  session_of,
+  drawn_replica,
+  drawn_session,
 };
-ghost use Rattle.ql_gen.specs.Draws.{next};
+ghost use Rattle.ql_gen.specs.Draws.{next_draw};
 
 use crate::draws::Draws;
 use crate::objects::first_objects;
@@ -35,8 +35,8 @@ pub(crate) fn draw_event(
 ) -> Result<Event, NoMemory>
     requires number { 1 ≤ number }
     requires few { length t.now.program.types ≤ 16 }
-    ensures event { IfOk result (λ event. event ≡ event_of t.now.program number draws.old) }
-    ensures state { OnOk result (draws.new ≡ after_event t.now.program draws.old) }
+    ensures event { IfOk result (λ event. event ≡ drawn_event t.now.program number draws.old) }
+    ensures state { OnOk result (draws.new ≡ after_drawn_event t.now.program draws.old) }
 {
     let kind = draws.below(12);
     if kind < 6 {
@@ -54,9 +54,9 @@ pub(crate) fn draw_event(
 }
 
 fn draw_caller(draws: &mut Draws) -> (SessId, ReplicaId)
-    ensures session { result.0 ≡ session_of draws.old }
-    ensures replica { result.1 ≡ replica_of draws.old }
-    ensures state { draws.new ≡ next (next draws.old) }
+    ensures session { result.0 ≡ drawn_session draws.old }
+    ensures replica { result.1 ≡ drawn_replica draws.old }
+    ensures state { draws.new ≡ next_draw (next_draw draws.old) }
 {
     let session = SessId(draws.below(4));
     let replica = ReplicaId(draws.below(3));
@@ -66,8 +66,8 @@ fn draw_caller(draws: &mut Draws) -> (SessId, ReplicaId)
 // One of the first messages.
 fn draw_message(number: u32, draws: &mut Draws) -> MsgId
     requires { 1 ≤ number }
-    ensures message { result ≡ message_of number draws.old }
-    ensures state { draws.new ≡ next draws.old }
+    ensures message { result ≡ drawn_message number draws.old }
+    ensures state { draws.new ≡ next_draw draws.old }
 {
     MsgId(1 + draws.below(number))
 }
@@ -92,7 +92,7 @@ fn draw_network(alloc: Global, number: u32, draws: &mut Draws) -> Result<Event, 
 fn draw_begin(alloc: Global, t: &Typed, draws: &mut Draws) -> Result<Event, NoMemory>
     requires { length t.now.program.types ≤ 16 }
     ensures event { IfOk result (λ event. event ≡ begin_of t.now.program draws.old) }
-    ensures state { OnOk result (draws.new ≡ after_begin t.now.program draws.old) }
+    ensures state { OnOk result (draws.new ≡ after_drawn_begin t.now.program draws.old) }
 {
     if t.txns() == 0 {
         return Ok(Event::Heal);
@@ -110,7 +110,7 @@ fn draw_begin(alloc: Global, t: &Typed, draws: &mut Draws) -> Result<Event, NoMe
 
 fn draw_call(alloc: Global, t: &Typed, draws: &mut Draws) -> Result<Event, NoMemory>
     requires { length t.now.program.types ≤ 16 }
-    ensures event { IfOk result (λ event. event ≡ call_of t.now.program draws.old) }
+    ensures event { IfOk result (λ event. event ≡ drawn_call t.now.program draws.old) }
     ensures state { OnOk result (draws.new ≡ after_call t.now.program draws.old) }
 {
     if t.ops() == 0 {
@@ -143,7 +143,7 @@ fn draw_args(alloc: Global, params: &[Param], draws: &mut Draws) -> Result<Value
 
 fn draw_arg(alloc: Global, base: Base, draws: &mut Draws) -> Result<Value, NoMemory>
     ensures arg { IfOk result (λ arg. arg ≡ arg_of base draws.old) }
-    ensures state { OnOk result (draws.new ≡ next draws.old) }
+    ensures state { OnOk result (draws.new ≡ next_draw draws.old) }
 {
     match base {
         Base::Int => Ok(Value::Int(i64::from(draws.below(100)))),

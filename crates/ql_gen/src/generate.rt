@@ -1,6 +1,6 @@
 ghost use Rattle.std.specs.Prelude.{◌≡◌, ◌≤◌, ◌<◌, ◌^◌, IfOk, length};
 ghost use Rattle.ql_schedule.specs.Guarantees.{IsSchedule};
-ghost use Rattle.ql_schedule.specs.Texts.{AreNamed};
+ghost use Rattle.ql_schedule.specs.Texts.{IsWellNamed};
 ghost use Rattle.ql_gen.specs.Generated.{generated, generated_events};
 
 use crate::draws::Draws;
@@ -20,7 +20,7 @@ pub fn schedule_of(alloc: Global, t: &Typed, number: u32, events: u32) -> Result
     requires few { events ≤ 4000 }
     ensures stated { IfOk result (λ s. s ≡ generated t.now.program number events) }
     ensures guarantees { IfOk result (IsSchedule t.now.program) }
-    ensures named { IfOk result (AreNamed t.now.program) }
+    ensures named { IfOk result (IsWellNamed t.now.program) }
 {
     let types = t.types();
     Ok(Schedule {

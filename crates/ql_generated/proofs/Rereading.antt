@@ -21,7 +21,7 @@ use Rattle.ql_schedule.specs.declared.schedule.Schedule.{Schedule}
 use Rattle.ql_machine.specs.Runs.{replicas_after}
 use Rattle.ql_schedule.specs.Files.{IsScheduleFile}
 use Rattle.ql_schedule.specs.Guarantees.{AreFit, FitsEvent, IsSchedule}
-use Rattle.ql_schedule.specs.Spelled.{AreNew, IsFound, IsSpelled, IsSpelledEvent, IsSpelledType}
+use Rattle.ql_schedule.specs.Spelled.{AreNew, IsFoundByName, IsSpelled, IsSpelledEvent, IsSpelledType}
 use Rattle.ql_schedule.specs.Texts.{schedule_lines}
 use Rattle.ql_schedule.proofs.ObjectNames.{found_by_name}
 use Rattle.ql_typing.specs.Lookups.{txn_place, type_place}
@@ -69,7 +69,7 @@ module _ (source : List ℕ) (p : Program) (is : IsSourceOf source p) where
   -- ---- events
 
   module _ (objects : List (List ℕ)) (kinds : List TypeId) (new : AreNew [] objects) where
-    ids-found : (ids : List ℕ) → AllByRecursion (λ o. o < length objects) ids → AllByRecursion (IsFound objects) ids
+    ids-found : (ids : List ℕ) → AllByRecursion (λ o. o < length objects) ids → AllByRecursion (IsFoundByName objects) ids
     ids-found [] below = tt
     ids-found (o ∷ ids) below = (found_by_name objects o new below.0, ids-found ids below.1)
 

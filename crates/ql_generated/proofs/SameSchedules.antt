@@ -15,8 +15,8 @@ use Rattle.ql_schedule.specs.Texts.{caller_fields, event_fields, name_at, object
 use Rattle.ql_typing.specs.Operations.{all_ops}
 use Rattle.ql_typing.specs.Names.{op_name, txn_name, type_name}
 use Rattle.ql_value.specs.Spelling.{value_text}
-use Rattle.ql_gen.specs.Draws.{draw, next}
-use Rattle.ql_gen.specs.Events.{after_begin, after_call, after_event, begin_of, call_of, event_of, params_of}
+use Rattle.ql_gen.specs.Draws.{draw, next_draw}
+use Rattle.ql_gen.specs.Events.{after_drawn_begin, after_call, after_drawn_event, begin_of, drawn_call, drawn_event, params_of}
 use Rattle.ql_gen.specs.Generated.{generated, generated_events, state_after}
 use Rattle.ql_gen.specs.Objects.{object_kinds, drawn_object_names}
 
@@ -53,35 +53,35 @@ module _ (p q : Program) (e : source_of p ≡ source_of q) where
 
   -- ---- the schedule
 
-  call-same : (x : ℕ) → call_of p x ≡ call_of q x
-  call-same x = rw (count-ops, same-op-kinds p q e, params-same (draw (length (all_ops q.types)) (next (next x)))) refl
+  call-same : (x : ℕ) → drawn_call p x ≡ drawn_call q x
+  call-same x = rw (count-ops, same-op-kinds p q e, params-same (draw (length (all_ops q.types)) (next_draw (next_draw x)))) refl
 
   after-call-same : (x : ℕ) → after_call p x ≡ after_call q x
-  after-call-same x = rw (count-ops, params-same (draw (length (all_ops q.types)) (next (next x)))) refl
+  after-call-same x = rw (count-ops, params-same (draw (length (all_ops q.types)) (next_draw (next_draw x)))) refl
 
   begin-same : (x : ℕ) → begin_of p x ≡ begin_of q x
   begin-same x = rw (count-txns, count-types) refl
 
-  after-begin-same : (x : ℕ) → after_begin p x ≡ after_begin q x
+  after-begin-same : (x : ℕ) → after_drawn_begin p x ≡ after_drawn_begin q x
   after-begin-same x = rw count-txns refl
 
-  event-same : (j x : ℕ) → event_of p j x ≡ event_of q j x
-  event-same j x = rw (call-same (next x), begin-same (next x)) refl
+  event-same : (j x : ℕ) → drawn_event p j x ≡ drawn_event q j x
+  event-same j x = rw (call-same (next_draw x), begin-same (next_draw x)) refl
 
-  after-event-same : (x : ℕ) → after_event p x ≡ after_event q x
-  after-event-same x = rw (after-call-same (next x), after-begin-same (next x)) refl
+  after-event-same : (x : ℕ) → after_drawn_event p x ≡ after_drawn_event q x
+  after-event-same x = rw (after-call-same (next_draw x), after-begin-same (next_draw x)) refl
 
   state-same : (number n : ℕ) → state_after p number n ≡ state_after q number n
   unfolding state_after
   state-same number zero = refl
-  state-same number (suc n) = ap (after_event p) (state-same number n) ∙ after-event-same (state_after q number n)
+  state-same number (suc n) = ap (after_drawn_event p) (state-same number n) ∙ after-event-same (state_after q number n)
 
   events-same : (number n : ℕ) → generated_events p number n ≡ generated_events q number n
   unfolding generated_events
   events-same number zero = refl
   events-same number (suc n) =
-      ap (λ (es : List Event). es ++ event_of p (suc n) (state_after p number n) ∷ []) (events-same number n)
-      ∙ ap (λ (event : Event). generated_events q number n ++ event ∷ []) (ap (event_of p (suc n)) (state-same number n) ∙ event-same (suc n) (state_after q number n))
+      ap (λ (es : List Event). es ++ drawn_event p (suc n) (state_after p number n) ∷ []) (events-same number n)
+      ∙ ap (λ (event : Event). generated_events q number n ++ event ∷ []) (ap (drawn_event p (suc n)) (state-same number n) ∙ event-same (suc n) (state_after q number n))
 
   schedule-same : (number n : ℕ) → generated p number n ≡ generated q number n
   schedule-same number n =

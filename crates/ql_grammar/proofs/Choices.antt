@@ -6,7 +6,7 @@ use Rattle.ql_grammar.specs.Limits.{Fault, Unexpected, Counts}
 use Rattle.ql_lang.specs.declared.expression.BinOp.{BinOp}
 use Rattle.ql_grammar.specs.Table.{ASpelling, Kept, Operator, operator_at, Value, APlace, AName, Sym, Word, Placed, ANameOf, Do, APart, Then, Part, Rest, ways, way_on}
 use Rattle.ql_grammar.proofs.Operators.{ahead_is, none_ahead}
-use Rattle.ql_grammar.specs.Machine.{operator_taken, Taken, or_else, lead, first_fit, step, finish, go_on, Reading, run, read, is_ahead, is_begun, chosen}
+use Rattle.ql_grammar.specs.Machine.{operator_taken, Taken, first_taken, lead, first_fit, step, finish, go_on, Reading, run, read, is_ahead, is_begun, chosen}
 
 -- A reading chooses among the ways of a part by the next token.
 
@@ -17,15 +17,15 @@ module _ (t : Lexeme) (ts : List Lexeme) (c : Counts) (end : ℕ) where
   later : List Sym → List Value → Counts → Result (List Value) Fault
   later s w d = run ts s w d end
 
-  test_way : (b : Bool) (some : Taken) (other : Option Taken) → go_on (or_else (cond b (Some some) None) other) c t.at later ≡ cond b (go_on (cond b (Some some) None) c t.at later) (go_on other c t.at later)
+  test_way : (b : Bool) (some : Taken) (other : Option Taken) → go_on (first_taken (cond b (Some some) None) other) c t.at later ≡ cond b (go_on (cond b (Some some) None) c t.at later) (go_on other c t.at later)
   test_way true some other = refl
   test_way false some other = refl
 
-  test_operator : (o : Option BinOp) (below : List Sym) (vs : List Value) (other : Option Taken) → go_on (or_else (operator_taken o below vs) other) c t.at later ≡ cond (is_some o) (go_on (operator_taken o below vs) c t.at later) (go_on other c t.at later)
+  test_operator : (o : Option BinOp) (below : List Sym) (vs : List Value) (other : Option Taken) → go_on (first_taken (operator_taken o below vs) other) c t.at later ≡ cond (is_some o) (go_on (operator_taken o below vs) c t.at later) (go_on other c t.at later)
   test_operator (Some o) below vs other = refl
   test_operator None below vs other = refl
 
-  way_chosen : (way : List Sym) (vs : List Value) (other : Option Taken) → go_on (or_else (lead way vs t.what t.text t.at) other) c t.at later ≡ cond (is_begun way (t ∷ ts)) (read at_token way vs) (go_on other c t.at later)
+  way_chosen : (way : List Sym) (vs : List Value) (other : Option Taken) → go_on (first_taken (lead way vs t.what t.text t.at) other) c t.at later ≡ cond (is_begun way (t ∷ ts)) (read at_token way vs) (go_on other c t.at later)
   unfolding lead step run read is_ahead at_token later
   way_chosen [] vs other = refl
   way_chosen (Word k r ∷ below) vs other = test_way (is_same t.what k) (record { role = r; stack = below; values = vs }) other

@@ -13,7 +13,7 @@ use Rattle.ql_grammar.specs.ExpressionGrammar as expression
 use Rattle.ql_grammar.specs.ExpressionGrammar.{Unary, Multiplied, Added, Compared, Conjoined, Disjoined, Chosen}
 use Rattle.ql_grammar.specs.ProgramGrammar as program
 use Rattle.ql_grammar.specs.Table.{ASpelling, AnOperator, Kept, Operator, operator_at, ExprAt, Arguments, BaseKind, AnyKind, Beginning, ListedNames, WholeSource, Value, APlace, AName, Sym, Word, Placed, ANameOf, Do, APart, Then, Part, Term, TermList, RelationAt, PropAt, BarredNames, Variable, VarList, WholeContract, Rest, ways, way_on}
-use Rattle.ql_grammar.specs.Machine.{operator_taken, Taken, or_else, lead, first_fit, step, finish}
+use Rattle.ql_grammar.specs.Machine.{operator_taken, Taken, first_taken, lead, first_fit, step, finish}
 use Rattle.ql_grammar.proofs.TerminalLemmas.{same_terminal}
 use Rattle.ql_grammar.proofs.Operators.{Found, is_operator, some_operator}
 use Rattle.ql_grammar.proofs.Wanted.{kept, operator, expr, arguments, base, kind, init, listed, source, Has, Widens, none, word, placed, name, change, term, terms, relation, prop, names, variable, vars, contract, stop, go}
@@ -57,7 +57,7 @@ lead_sound (Do f ∷ below) vs k x n = tt
 lead_sound (APart p ∷ below) vs k x n = tt
 lead_sound (Then l ∷ below) vs k x n = tt
 
-or_sound : (st : List Sym) (vs : List Value) (k : Terminal) (x : List ℕ) (n : ℕ) (a b : Option Taken) → IsSound st vs k x n a → IsSound st vs k x n b → IsSound st vs k x n (or_else a b)
+or_sound : (st : List Sym) (vs : List Value) (k : Terminal) (x : List ℕ) (n : ℕ) (a b : Option Taken) → IsSound st vs k x n a → IsSound st vs k x n b → IsSound st vs k x n (first_taken a b)
 or_sound st vs k x n (Some t) b here other = here
 or_sound st vs k x n None b here other = other
 

@@ -16,9 +16,9 @@ pub record Taken : Type 0 where
   pub stack : List Sym
   pub values : List Value
 
-abbrev pub or_else : Option Taken → Option Taken → Option Taken
-or_else (Some t) other = Some t
-or_else None other = other
+abbrev pub first_taken : Option Taken → Option Taken → Option Taken
+first_taken (Some t) other = Some t
+first_taken None other = other
 
 -- the stacks after an operator
 abbrev pub operator_taken : Option BinOp → List Sym → List Value → Option Taken
@@ -37,14 +37,14 @@ lead _ vs k x n = None
 -- a token as the first of one of these
 unfoldable pub first_fit : List (List Sym) → List Value → Terminal → List ℕ → ℕ → Option Taken
 first_fit [] vs k x n = None
-first_fit (way ∷ more) vs k x n = or_else (lead way vs k x n) (first_fit more vs k x n)
+first_fit (way ∷ more) vs k x n = first_taken (lead way vs k x n) (first_fit more vs k x n)
 
 -- a token on the stacks; a `Then` that it doesn't continue is skipped
 unfoldable pub step : List Sym → List Value → Terminal → List ℕ → ℕ → Option Taken
 step [] vs k x n = None
 step (Do f ∷ below) vs k x n = step below (f vs) k x n
 step (APart p ∷ below) vs k x n = first_fit (ways p below) vs k x n
-step (Then l ∷ below) vs k x n = or_else (lead (way_on l below) vs k x n) (step below vs k x n)
+step (Then l ∷ below) vs k x n = first_taken (lead (way_on l below) vs k x n) (step below vs k x n)
 step (Word j r ∷ below) vs k x n = lead (Word j r ∷ below) vs k x n
 step (Placed j r ∷ below) vs k x n = lead (Placed j r ∷ below) vs k x n
 step (ANameOf r ∷ below) vs k x n = lead (ANameOf r ∷ below) vs k x n

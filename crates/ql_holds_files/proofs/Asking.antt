@@ -14,7 +14,7 @@ use Rattle.ql_exec.proofs.Finding.{sametxn_parts, so_parts}
 use Rattle.ql_exec.proofs.Law.{fault_of-None}
 use Rattle.ql_holds_files.specs.declared.effect_line.EffectLine.{EffectLine}
 use Rattle.ql_holds_files.specs.declared.effects.NamedEffects.{NamedEffects}
-use Rattle.ql_holds_files.specs.EffectLine.{Fits, effect_rule, named_draft, with_named_effect}
+use Rattle.ql_holds_files.specs.EffectLine.{FitsLine, effect_rule, named_draft, with_named_effect}
 use Rattle.ql_holds_files.specs.HoldsFile.{Asked, named_formula_of, no_effects}
 use Rattle.ql_holds_files.specs.Grammar.{HoldsTree}
 use Rattle.ql_holds_files.specs.Questions.{IsQuestionOf, numbered_draft, unstamped}
@@ -49,10 +49,10 @@ faultless named e none =
     no_fault (list_any (λ id. is_none (effect_at named.effects id)) e.seen) (list_any (λ id. is_elsewhere (named_draft named e).object (effect_at named.effects id)) e.seen)
     (nat_le MAX_EFFECTS (length named.effects)) (exec.NotForward (next_id named.effects)) (exec.OtherObject (next_id named.effects)) none
 
-execution_after : (named : NamedEffects) (es : List EffectLine) → IsExecution named.effects → AllByRecursion Fits es → AreAllowed named es → IsExecution (named_after named es).effects
+execution_after : (named : NamedEffects) (es : List EffectLine) → IsExecution named.effects → AllByRecursion FitsLine es → AreAllowed named es → IsExecution (named_after named es).effects
 execution_after named [] is fits allowed = is
 execution_after named (e ∷ es) is fits allowed =
-    let fit : Fits e = fits.0 in
+    let fit : FitsLine e = fits.0 in
     let step = fault_of-None named.effects (named_draft named e) is fit.ascending in
     execution_after (with_named_effect named e) es (step.0 (faultless named e allowed.0)) fits.1 allowed.1
 
@@ -64,7 +64,7 @@ asked_after c current es = record { contract = named_formula_of c; cur = record 
 abbrev pub tree_of : Sentence → ℕ → List EffectLine → HoldsTree
 tree_of c current es = record { contract = c; current = current; effects = es }
 
-pub the_question : (c : Sentence) (current : ℕ) (es : List EffectLine) → AllByRecursion Fits es → AreAllowed (no_effects c) es → IsQuestionOf (tree_of c current es) (asked_after c current es)
+pub the_question : (c : Sentence) (current : ℕ) (es : List EffectLine) → AllByRecursion FitsLine es → AreAllowed (no_effects c) es → IsQuestionOf (tree_of c current es) (asked_after c current es)
 the_question c current es fits allowed = record {
   contract = refl;
   current = refl;

@@ -10,7 +10,7 @@ use Rattle.ql_holds_files.specs.declared.effect_line.EffectLine.{EffectLine}
 use Rattle.ql_holds_files.specs.declared.reading.Stage.{Stage}
 use Rattle.ql_holds_files.specs.declared.reading.Stage.TheVariants.{Unbegun, WithContract, WithEffects, Ended}
 use Rattle.ql_holds_files.specs.ContractLine.{IsContractLine, sentence_faults}
-use Rattle.ql_holds_files.specs.EffectLine.{Fits, at_fields, holds_end_fields}
+use Rattle.ql_holds_files.specs.EffectLine.{FitsLine, at_fields, holds_end_fields}
 use Rattle.ql_holds_files.specs.HoldsFile.{IsCurrentLine, named_formula_of, no_effects}
 use Rattle.ql_holds_files.specs.FirstFaults.{BeginsKeeping}
 use Rattle.ql_holds_files.specs.Grammar.{HoldsTree, IsHoldsFile, effect_lines}
@@ -47,7 +47,7 @@ fields_append : (xs ys : List (List ℕ)) (es : List EffectLine) (more : List Fi
 fields_append xs ys es more p q = map-append fields_of xs ys ∙ ap (λ fs. fs ++ map fields_of ys) p ∙ ap (λ fs. effect_lines 1 es ++ fs) q
 
 -- the lines of effects, and then the end
-pub file_ended : (x y : List ℕ) (zs : List (List ℕ)) (c : Sentence) (id : ℕ) (es : List EffectLine) → IsContractLine x c → IsCurrentLine (fields_of y) id → AllByRecursion Fits es
+pub file_ended : (x y : List ℕ) (zs : List (List ℕ)) (c : Sentence) (id : ℕ) (es : List EffectLine) → IsContractLine x c → IsCurrentLine (fields_of y) id → AllByRecursion FitsLine es
     → map fields_of zs ≡ effect_lines 1 es → IsHoldsFile (x ∷ y ∷ (zs ++ end_text)) (tree_of c id es)
 file_ended x y zs c id es contract current fits lines =
     file_of x y (zs ++ end_text) (tree_of c id es) contract
@@ -77,7 +77,7 @@ begins (l ∷ m ∷ ls) s (c, has, id, is, inr read) = (
 
 -- ---- and back
 
-read_of : (m : Numbered) (ls : List Numbered) (gs : List Fields) (t : HoldsTree) → KeepsRules t → AllByRecursion Fits t.effects → Parted 1 (fields_in ls) t.effects ⊎ Whole 1 (fields_in ls) gs t.effects
+read_of : (m : Numbered) (ls : List Numbered) (gs : List Fields) (t : HoldsTree) → KeepsRules t → AllByRecursion FitsLine t.effects → Parted 1 (fields_in ls) t.effects ⊎ Whole 1 (fields_in ls) gs t.effects
     → (s : Stage) × AreRead (named_formula_of t.contract) (record { line = m.number; id = t.current }) (no_effects t.contract) ls s
 read_of m ls gs t keeps fits (inl p) = (
   WithEffects (named_formula_of t.contract) (record { line = m.number; id = t.current }) (named_after (no_effects t.contract) p.first),

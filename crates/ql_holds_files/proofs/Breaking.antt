@@ -13,7 +13,7 @@ use Rattle.ql_holds_files.specs.declared.reading.Stage.TheVariants.{WithContract
 use Rattle.ql_holds_files.specs.declared.rules.HoldsRule.{HoldsRule}
 use Rattle.ql_holds_files.specs.declared.rules.HoldsRule.TheVariants.{Unexpected}
 use Rattle.ql_holds_files.specs.ContractLine.{IsContractLine, lowest_rule, sentence_faults}
-use Rattle.ql_holds_files.specs.EffectLine.{Fits, IsHoldsEffectLine, effect_rule, holds_effect_fields, holds_end_fields, with_named_effect}
+use Rattle.ql_holds_files.specs.EffectLine.{FitsLine, IsHoldsEffectLine, effect_rule, holds_effect_fields, holds_end_fields, with_named_effect}
 use Rattle.ql_holds_files.specs.HoldsFile.{ExtendsHolds, ExtendsHoldsAs, IsCurrentLine, IsMore, after_contract, after_more, named_formula_of, no_effects}
 use Rattle.ql_holds_files.specs.Rules.{unless_broken}
 use Rattle.ql_holds_files.specs.FirstFaults.BreaksHoldsRule.{unexpected, contract, effect}
@@ -52,7 +52,7 @@ texts_append ls l = map-append (λ (n : Numbered). n.text) ls (l ∷ [])
 texts_then : (ls : List Numbered) (l : Numbered) (more : List (List ℕ)) → texts_of (ls ++ l ∷ []) ++ more ≡ texts_of ls ++ l.text ∷ more
 texts_then ls l more = ap (λ (ts : List (List ℕ)). ts ++ more) (texts_append ls l) ∙ append_assoc (texts_of ls) (l.text ∷ []) more
 
-all_more : (es : List EffectLine) (e : EffectLine) → AllByRecursion Fits es → Fits e → AllByRecursion Fits (es ++ e ∷ [])
+all_more : (es : List EffectLine) (e : EffectLine) → AllByRecursion FitsLine es → FitsLine e → AllByRecursion FitsLine (es ++ e ∷ [])
 all_more [] e fits fit = (fit, tt)
 all_more (f ∷ es) e fits fit = (fits.0, all_more es e fits.1 fit)
 
@@ -74,7 +74,7 @@ pub no_whole_beginning : (n : ℕ) (es us : List EffectLine) → effect_lines n 
 no_whole_beginning n es us same = no_whole n us es (sym same ∙ append-nil (effect_lines n es))
 
 -- nothing comes after the end
-past_end : (fs : List Fields) (f : Fields) (gs : List Fields) (es us : List EffectLine) → AllByRecursion Fits us → fs ≡ effect_lines 1 es ++ holds_end_fields ∷ []
+past_end : (fs : List Fields) (f : Fields) (gs : List Fields) (es us : List EffectLine) → AllByRecursion FitsLine us → fs ≡ effect_lines 1 es ++ holds_end_fields ∷ []
     → fs ++ f ∷ gs ≡ effect_lines 1 us ++ holds_end_fields ∷ [] → ⊥
 past_end fs f gs es us fits are same = elim (parted 1 fs (f ∷ gs) us fits same) [
   | inl p ↦ no_whole 1 es p.first (sym are ∙ p.lines)
@@ -82,7 +82,7 @@ past_end fs f gs es us fits are same = elim (parted 1 fs (f ∷ gs) us fits same
 ]
 
 -- what stands between effects and the end is the last effect
-last_effect : (n : ℕ) (es us : List EffectLine) (u : EffectLine) (f : Fields) → AllByRecursion Fits es → AllByRecursion Fits (us ++ u ∷ [])
+last_effect : (n : ℕ) (es us : List EffectLine) (u : EffectLine) (f : Fields) → AllByRecursion FitsLine es → AllByRecursion FitsLine (us ++ u ∷ [])
     → effect_lines n es ++ f ∷ holds_end_fields ∷ [] ≡ effect_lines n (us ++ u ∷ []) ++ holds_end_fields ∷ [] → (es ≡ us) × (f ≡ holds_effect_fields (n + length es) u)
 last_effect n [] [] u f p q same =
     (refl, heads f (holds_effect_fields n u) (holds_end_fields ∷ []) (holds_end_fields ∷ []) same ∙ ap (λ k. holds_effect_fields k u) (omega arith))
@@ -131,7 +131,7 @@ second_refused k l c made rule line (effect t before e r h are broken) =
 -- ---- the lines after these
 
 module _ (k m : Numbered) (ls : List Numbered) (l : Numbered) (c : Sentence) (id : ℕ) (contract_is : IsContractLine k.text c) (current_is : IsCurrentLine (fields_of m.text) id)
-    (es : List EffectLine) (fits : AllByRecursion Fits es) (lines : fields_in ls ≡ effect_lines 1 es) where
+    (es : List EffectLine) (fits : AllByRecursion FitsLine es) (lines : fields_in ls ≡ effect_lines 1 es) where
   abbrev all : List (List ℕ)
   all = k.text ∷ m.text ∷ texts_of (ls ++ l ∷ [])
 
@@ -139,12 +139,12 @@ module _ (k m : Numbered) (ls : List Numbered) (l : Numbered) (c : Sentence) (id
   count = omega (arith, count_from_none c es)
 
   -- the lines up to one more effect
-  with_effect : (e : EffectLine) → Fits e → fields_of l.text ≡ holds_effect_fields (1 + length es) e → map fields_of (texts_of (ls ++ l ∷ [])) ≡ effect_lines 1 (es ++ e ∷ [])
+  with_effect : (e : EffectLine) → FitsLine e → fields_of l.text ≡ holds_effect_fields (1 + length es) e → map fields_of (texts_of (ls ++ l ∷ [])) ≡ effect_lines 1 (es ++ e ∷ [])
   with_effect e fit is =
       ap (map fields_of) (sym (append-nil (texts_of (ls ++ l ∷ [])))) ∙ spelled_then ls l [] ∙ ap (λ fs. fs ++ fields_of l.text ∷ []) lines
       ∙ ap (λ (f : Fields). effect_lines 1 es ++ f ∷ []) is ∙ sym (lines_append 1 es (e ∷ []))
 
-  file_with : (e : EffectLine) → Fits e → fields_of l.text ≡ holds_effect_fields (1 + length es) e → IsHoldsFile (all ++ end_text) (tree_of c id (es ++ e ∷ []))
+  file_with : (e : EffectLine) → FitsLine e → fields_of l.text ≡ holds_effect_fields (1 + length es) e → IsHoldsFile (all ++ end_text) (tree_of c id (es ++ e ∷ []))
   file_with e fit is = file_ended k.text m.text (texts_of (ls ++ l ∷ [])) c id (es ++ e ∷ []) contract_is current_is (all_more es e fits fit) (with_effect e fit is)
 
   file_closed : fields_of l.text ≡ holds_end_fields → IsHoldsFile (all ++ []) (tree_of c id es)
@@ -184,13 +184,13 @@ module _ (k m : Numbered) (ls : List Numbered) (l : Numbered) (c : Sentence) (id
   more_refused current rule (contract more t r one h broken) = absurd (omega (arith, one))
   more_refused current rule (effect t before e r h are broken) =
       let named = named_after (no_effects c) es in
-      let fits_t : AllByRecursion Fits (before ++ e ∷ []) = subst (AllByRecursion Fits) are h.effects in
+      let fits_t : AllByRecursion FitsLine (before ++ e ∷ []) = subst (AllByRecursion FitsLine) are h.effects in
       let spelled = goes_on end_text t h ∙ ap (λ us. effect_lines 1 us ++ holds_end_fields ∷ []) are in
       let last = last_effect 1 es before e (fields_of l.text) fits fits_t spelled in
       let is : IsHoldsEffectLine (fields_of l.text) (suc (length named.effects)) e = record { fits = last_fits before e fits_t; is = last.1 ∙ ap (λ n. holds_effect_fields n e) (sym count) } in
       inl (Some e, is, refuses (effect_rule named e) (WithEffects (named_formula_of c) current (with_named_effect named e)) r (same_rule c es e ∙ ap (λ us. rule_broken us e) last.0 ∙ broken))
     where
-      last_fits : (us : List EffectLine) (u : EffectLine) → AllByRecursion Fits (us ++ u ∷ []) → Fits u
+      last_fits : (us : List EffectLine) (u : EffectLine) → AllByRecursion FitsLine (us ++ u ∷ []) → FitsLine u
       last_fits [] u fit = fit.0
       last_fits (v ∷ us) u fit = last_fits us u fit.1
 

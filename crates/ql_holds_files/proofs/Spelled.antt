@@ -6,13 +6,13 @@ use Rattle.ql_lines.proofs.WrittenNumbers.{same_numbers}
 use Rattle.ql_lines.proofs.Conses.{both, heads, tails}
 use Rattle.ql_lines.specs.Fields.{Fields}
 use Rattle.ql_holds_files.specs.declared.effect_line.EffectLine.{EffectLine}
-use Rattle.ql_holds_files.specs.EffectLine.{Fits, holds_effect_fields, holds_end_fields}
+use Rattle.ql_holds_files.specs.EffectLine.{FitsLine, holds_effect_fields, holds_end_fields}
 use Rattle.ql_holds_files.specs.Grammar.{effect_lines}
 
 pub no_end : (n : ℕ) (e : EffectLine) → holds_effect_fields n e ≡ holds_end_fields → ⊥
 no_end n e same = omega (arith, ap length same)
 
-pub one_effect : (n : ℕ) (e f : EffectLine) → Fits e → Fits f → holds_effect_fields n e ≡ holds_effect_fields n f → e ≡ f
+pub one_effect : (n : ℕ) (e f : EffectLine) → FitsLine e → FitsLine f → holds_effect_fields n e ≡ holds_effect_fields n f → e ≡ f
 one_effect n e f p q same =
     let object : e.object ≡ f.object = ap (λ (fs : Fields). get_or fs 2 []) same in
     let op : e.op ≡ f.op = ap (λ (fs : Fields). get_or fs 3 []) same in
@@ -29,7 +29,7 @@ lines_append n (e ∷ es) us =
     ap (λ r. holds_effect_fields n e ∷ r) (lines_append (suc n) es us ∙ ap (λ k. effect_lines (suc n) es ++ effect_lines k us) (omega arith))
 
 -- the same lines with something that isn't a line of an effect after them
-pub same_effects : (n : ℕ) (es us : List EffectLine) → AllByRecursion Fits es → AllByRecursion Fits us
+pub same_effects : (n : ℕ) (es us : List EffectLine) → AllByRecursion FitsLine es → AllByRecursion FitsLine us
     → effect_lines n es ++ holds_end_fields ∷ [] ≡ effect_lines n us ++ holds_end_fields ∷ [] → es ≡ us
 same_effects n [] [] p q same = refl
 same_effects n [] (u ∷ us) p q same = absurd (no_end n u (sym (heads holds_end_fields (holds_effect_fields n u) [] (effect_lines (suc n) us ++ holds_end_fields ∷ []) same)))
@@ -48,13 +48,13 @@ pub record Parted (n : ℕ) (fs : List Fields) (us : List EffectLine) : Type 0 w
   pub second : List EffectLine
   pub are : us ≡ first ++ second
   pub lines : fs ≡ effect_lines n first
-  pub fits : AllByRecursion Fits first
+  pub fits : AllByRecursion FitsLine first
 
 pub record Whole (n : ℕ) (fs gs : List Fields) (us : List EffectLine) : Type 0 where
   pub lines : fs ≡ effect_lines n us ++ holds_end_fields ∷ []
   pub none : gs ≡ []
 
-longer : (n : ℕ) (u : EffectLine) (f : Fields) (fs gs : List Fields) (us : List EffectLine) → Fits u → f ≡ holds_effect_fields n u
+longer : (n : ℕ) (u : EffectLine) (f : Fields) (fs gs : List Fields) (us : List EffectLine) → FitsLine u → f ≡ holds_effect_fields n u
     → Parted (suc n) fs us ⊎ Whole (suc n) fs gs us → Parted n (f ∷ fs) (u ∷ us) ⊎ Whole n (f ∷ fs) gs (u ∷ us)
 longer n u f fs gs us fits is (inl p) = inl (record {
   first = u ∷ p.first;
@@ -69,7 +69,7 @@ longer n u f fs gs us fits is (inr w) = inr (record {
 })
 
 -- lines that begin those of effects and the end are those of the first effects, or all
-pub parted : (n : ℕ) (fs gs : List Fields) (us : List EffectLine) → AllByRecursion Fits us → fs ++ gs ≡ effect_lines n us ++ holds_end_fields ∷ []
+pub parted : (n : ℕ) (fs gs : List Fields) (us : List EffectLine) → AllByRecursion FitsLine us → fs ++ gs ≡ effect_lines n us ++ holds_end_fields ∷ []
     → Parted n fs us ⊎ Whole n fs gs us
 parted n [] gs us fits same = inl (record { first = []; second = us; are = refl; lines = refl; fits = tt })
 parted n (f ∷ fs) gs (u ∷ us) fits same =
@@ -83,8 +83,8 @@ parted n (f ∷ fs) gs [] fits same = ended fs gs (heads f holds_end_fields (fs 
     ended (h ∷ fs) gs is none = absurd (omega (arith, ap length none))
 
 -- what comes after the lines of effects is the end, or one more effect
-pub next : (n : ℕ) (es us : List EffectLine) (f : Fields) (gs : List Fields) → AllByRecursion Fits us
-    → effect_lines n es ++ f ∷ gs ≡ effect_lines n us ++ holds_end_fields ∷ [] → (f ≡ holds_end_fields) ⊎ ((u : EffectLine) × Fits u × (f ≡ holds_effect_fields (n + length es) u))
+pub next : (n : ℕ) (es us : List EffectLine) (f : Fields) (gs : List Fields) → AllByRecursion FitsLine us
+    → effect_lines n es ++ f ∷ gs ≡ effect_lines n us ++ holds_end_fields ∷ [] → (f ≡ holds_end_fields) ⊎ ((u : EffectLine) × FitsLine u × (f ≡ holds_effect_fields (n + length es) u))
 next n [] [] f gs fits same = inl (heads f holds_end_fields gs [] same)
 next n [] (u ∷ us) f gs fits same =
     inr (u, fits.0, heads f (holds_effect_fields n u) gs (effect_lines (suc n) us ++ holds_end_fields ∷ []) same ∙ ap (λ k. holds_effect_fields k u) (omega arith))

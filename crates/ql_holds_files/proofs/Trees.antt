@@ -16,7 +16,7 @@ use Rattle.ql_holds_files.specs.declared.reading.Stage.TheVariants.{Unbegun, Wit
 use Rattle.ql_holds_files.specs.declared.rules.HoldsRule.{HoldsRule}
 use Rattle.ql_holds_files.specs.declared.rules.HoldsRule.TheVariants.{Unexpected, Range}
 use Rattle.ql_holds_files.specs.ContractLine.{IsContractLine}
-use Rattle.ql_holds_files.specs.EffectLine.{Fits, at_fields, holds_end_fields}
+use Rattle.ql_holds_files.specs.EffectLine.{FitsLine, at_fields, holds_end_fields}
 use Rattle.ql_holds_files.specs.HoldsFile.{Asked, HoldsOutcome, IsCurrentLine, closed, is_there, named_formula_of, no_effects}
 use Rattle.ql_holds_files.specs.OneLine.{one_rest}
 use Rattle.ql_holds_files.specs.Uniqueness.{OneContract}
@@ -44,7 +44,7 @@ contract_of x ys t h = subst (λ l. IsContractLine l t.contract) (sym (heads x h
 pub record Lines (y : List ℕ) (zs : List (List ℕ)) (t : HoldsTree) : Type 0 where
   pub current : IsCurrentLine (fields_of y) t.current
   pub spelled : map fields_of zs ≡ effect_lines 1 t.effects ++ holds_end_fields ∷ []
-  pub effects : AllByRecursion Fits t.effects
+  pub effects : AllByRecursion FitsLine t.effects
 
 pub lines_of : (x y : List ℕ) (zs : List (List ℕ)) (t : HoldsTree) → IsHoldsFile (x ∷ y ∷ zs) t → Lines y zs t
 lines_of x y zs t h =

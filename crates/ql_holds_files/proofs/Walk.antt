@@ -11,7 +11,7 @@ use Rattle.ql_holds_files.specs.declared.reading.Current.{Current}
 use Rattle.ql_holds_files.specs.declared.reading.Stage.{Stage}
 use Rattle.ql_holds_files.specs.declared.reading.Stage.TheVariants.{WithEffects, Ended}
 use Rattle.ql_holds_files.specs.declared.rules.HoldsRule.{HoldsRule}
-use Rattle.ql_holds_files.specs.EffectLine.{Fits, IsHoldsEffectLine, effect_rule, holds_effect_fields, holds_end_fields, with_named_effect}
+use Rattle.ql_holds_files.specs.EffectLine.{FitsLine, IsHoldsEffectLine, effect_rule, holds_effect_fields, holds_end_fields, with_named_effect}
 use Rattle.ql_holds_files.specs.HoldsFile.{ExtendsHolds, closed}
 use Rattle.ql_holds_files.specs.Limits.{given_is, made_is, not_given}
 use Rattle.ql_holds_files.specs.NamedFormulas.{NamedFormula}
@@ -32,7 +32,7 @@ unbroken broken made none = ap (λ (b : Option HoldsRule). unless_broken b made)
 -- lines that spell effects, with more after them, and the stage that they make
 pub record Spells (named : NamedEffects) (ls : List Numbered) (more : List Fields) (made : NamedEffects → Stage) (s : Stage) : Type 0 where
   pub effects : List EffectLine
-  pub fits : AllByRecursion Fits effects
+  pub fits : AllByRecursion FitsLine effects
   pub allowed : AreAllowed named effects
   pub lines : fields_in ls ≡ effect_lines (suc (length named.effects)) effects ++ more
   pub to : s ≡ made (named_after named effects)
@@ -76,7 +76,7 @@ module _ (formula : NamedFormula) (current : Current) where
 
   module _ (more : List Fields) (made : NamedEffects → Stage)
       (after : (named : NamedEffects) (ls : List Numbered) → fields_in ls ≡ more → LeadsTo (WithEffects formula current named) ls (made named)) where
-    leads_through : (es : List EffectLine) (ls : List Numbered) (named : NamedEffects) → AllByRecursion Fits es → AreAllowed named es
+    leads_through : (es : List EffectLine) (ls : List Numbered) (named : NamedEffects) → AllByRecursion FitsLine es → AreAllowed named es
         → fields_in ls ≡ effect_lines (suc (length named.effects)) es ++ more → LeadsTo (WithEffects formula current named) ls (made (named_after named es))
     unfolding Leads
     leads_through [] ls named fits allowed lines = after named ls lines

@@ -9,11 +9,11 @@ use Rattle.ql_holds_files.specs.declared.reading.Stage.{Stage}
 use Rattle.ql_holds_files.specs.declared.reading.Stage.TheVariants.{Unbegun, WithContract, WithEffects, Ended}
 use Rattle.ql_holds_files.specs.declared.rules.HoldsRule.{HoldsRule}
 use Rattle.ql_holds_files.specs.HoldsFile.{ExtendsHolds, HoldsOutcome, closed, is_there}
-use Rattle.ql_holds_files.specs.Limits.{IsWithin, stays_within}
+use Rattle.ql_holds_files.specs.Limits.{IsWithinLimits, stays_within}
 
-leads_within : (ls : List Numbered) (s t : Stage) → IsWithin s → Leads ExtendsHolds (λ s end y. y ≡ closed s end) s ls t → IsWithin t
+leads_within : (ls : List Numbered) (s t : Stage) → IsWithinLimits s → Leads ExtendsHolds (λ s end y. y ≡ closed s end) s ls t → IsWithinLimits t
 unfolding Leads
-leads_within [] s t within h = subst IsWithin h within
+leads_within [] s t within h = subst IsWithinLimits h within
 leads_within (l ∷ ls) s t within h = leads_within ls h.0 t (stays_within s h.0 l within h.1) h.2
 
 abbrev pub AreFew : Asked → Type 0
@@ -27,7 +27,7 @@ there_or_not false asked given fault e = absurd cc
 not_closed : (given : Asked) (fault : Broken HoldsRule) → ◌≡◌ {A = Result Asked (Broken HoldsRule)} (Ok given) (Err fault) → ⊥
 not_closed given fault e = cc
 
-closes_within : (s : Stage) (end : ℕ) (asked : Asked) → IsWithin s → ◌≡◌ {A = Result Asked (Broken HoldsRule)} (Ok asked) (closed s end) → AreFew asked
+closes_within : (s : Stage) (end : ℕ) (asked : Asked) → IsWithinLimits s → ◌≡◌ {A = Result Asked (Broken HoldsRule)} (Ok asked) (closed s end) → AreFew asked
 closes_within Unbegun end asked within h = absurd (not_closed asked _ h)
 closes_within (WithContract formula effects) end asked within h = absurd (not_closed asked _ h)
 closes_within (WithEffects formula current effects) end asked within h = absurd (not_closed asked _ h)

@@ -15,7 +15,7 @@ use Rattle.ql_grammar.specs.ContractGrammar.ReadsContract.{plain}
 use Rattle.ql_grammar.specs.ContractGrammar.ReadsProp.{atom, both, either, truth}
 use Rattle.ql_grammar.specs.Limits.{counted, counted_all, with_nodes}
 use Rattle.ql_grammar.specs.Terminals.{keyword as keyword_terminal, expression_word, logic_word}
-use Rattle.ql_grammar.specs.Texts.{IsWithin}
+use Rattle.ql_grammar.specs.Texts.{IsWithinCounts}
 use Rattle.ql_grammar.specs.Tokens.{Marked, marked, terminal_of}
 use Rattle.ql_parse.specs.Parsing.{IsContractText}
 use Rattle.ql_typing.specs.Faults.{each, names_met, repeats}
@@ -46,7 +46,7 @@ lexes = gap (blank space) (token (keyword (codes "true") [] is_word refl reserve
 abbrev marks : List Marked
 marks = marked (Makes 1) TrueWord (codes "true") 1 ∷ []
 
-within : IsWithin marks
+within : IsWithinCounts marks
 unfolding counted counted_all with_nodes
 within = (record { open_brackets = 0; nodes = 1 }, refl)
 

@@ -36,7 +36,7 @@ holds_end_fields = codes "end" ∷ []
 
 -- ---- what has a spelling
 
-pub record Fits (e : EffectLine) : Type 0 where
+pub record FitsLine (e : EffectLine) : Type 0 where
   pub object : IsName e.object
   pub op : IsName e.op
   pub session : e.session ≤ 255
@@ -45,7 +45,7 @@ pub record Fits (e : EffectLine) : Type 0 where
 
 -- the fields are the line of an effect with this number
 pub record IsHoldsEffectLine (fields : Fields) (id : ℕ) (e : EffectLine) : Type 0 where
-  pub fits : Fits e
+  pub fits : FitsLine e
   pub is : fields ≡ holds_effect_fields id e
 
 -- ---- what lines of effects make

@@ -5,7 +5,7 @@ use Rattle.ql_lang.specs.Trees.{Sentence}
 use Rattle.ql_lines.specs.Fields.{fields_of, Fields, IsId}
 use Rattle.ql_holds_files.specs.declared.effect_line.EffectLine.{EffectLine}
 use Rattle.ql_holds_files.specs.ContractLine.{IsContractLine}
-use Rattle.ql_holds_files.specs.EffectLine.{Fits, at_fields, holds_effect_fields, holds_end_fields}
+use Rattle.ql_holds_files.specs.EffectLine.{FitsLine, at_fields, holds_effect_fields, holds_end_fields}
 
 -- a contract, the id of the current effect, and effects
 pub record HoldsTree : Type 0 where
@@ -26,4 +26,4 @@ pub record IsHoldsFile (lines : List (List ℕ)) (t : HoldsTree) : Type 0 where
   pub contract : IsContractLine first t.contract
   pub spelled : map fields_of others ≡ at_fields t.current ∷ (effect_lines 1 t.effects ++ holds_end_fields ∷ [])
   pub current : IsId t.current
-  pub effects : AllByRecursion Fits t.effects
+  pub effects : AllByRecursion FitsLine t.effects

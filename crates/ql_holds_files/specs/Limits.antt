@@ -29,14 +29,14 @@ use Rattle.ql_holds_files.specs.HoldsFile.{ExtendsHolds, named_formula_of}
 use Rattle.ql_holds_files.specs.NamedFormulas.{NamedFormula}
 use Rattle.ql_holds_files.specs.Rules.{unless_broken}
 
-abbrev pub AreWithin : NamedFormula → NamedEffects → Type 0
-AreWithin formula effects = (length formula.formula.vars ≤ 5) × (length effects.effects ≤ MAX_EFFECTS) × (length effects.objects ≤ length effects.effects)
+abbrev pub AreWithinLimits : NamedFormula → NamedEffects → Type 0
+AreWithinLimits formula effects = (length formula.formula.vars ≤ 5) × (length effects.effects ≤ MAX_EFFECTS) × (length effects.objects ≤ length effects.effects)
 
-abbrev pub IsWithin : Stage → Type 0
-IsWithin Unbegun = Unit {0}
-IsWithin (WithContract formula effects) = AreWithin formula effects
-IsWithin (WithEffects formula current effects) = AreWithin formula effects
-IsWithin (Ended formula current effects) = AreWithin formula effects
+abbrev pub IsWithinLimits : Stage → Type 0
+IsWithinLimits Unbegun = Unit {0}
+IsWithinLimits (WithContract formula effects) = AreWithinLimits formula effects
+IsWithinLimits (WithEffects formula current effects) = AreWithinLimits formula effects
+IsWithinLimits (Ended formula current effects) = AreWithinLimits formula effects
 
 -- ---- what is made where no rule is broken
 
@@ -113,13 +113,13 @@ few_objects named e few =
 
 -- ---- lines
 
-pub stays_within : (s t : Stage) (l : Numbered) → IsWithin s → ExtendsHolds s l (Ok t) → IsWithin t
-stays_within Unbegun t l within (inl (c, is, e)) = let made = made_is _ _ t e in subst IsWithin (sym made.1) (few_variables c made.0, omega arith, omega arith)
+pub stays_within : (s t : Stage) (l : Numbered) → IsWithinLimits s → ExtendsHolds s l (Ok t) → IsWithinLimits t
+stays_within Unbegun t l within (inl (c, is, e)) = let made = made_is _ _ t e in subst IsWithinLimits (sym made.1) (few_variables c made.0, omega arith, omega arith)
 stays_within Unbegun t l within (inr (none, e)) = absurd (not_given t e)
-stays_within (WithContract formula effects) t l within (inl (cur, is, e)) = subst IsWithin (sym (given_is _ t e)) within
+stays_within (WithContract formula effects) t l within (inl (cur, is, e)) = subst IsWithinLimits (sym (given_is _ t e)) within
 stays_within (WithContract formula effects) t l within (inr (none, e)) = absurd (not_given t e)
-stays_within (WithEffects formula current effects) t l within (inl (None, is, e)) = subst IsWithin (sym (given_is _ t e)) within
+stays_within (WithEffects formula current effects) t l within (inl (None, is, e)) = subst IsWithinLimits (sym (given_is _ t e)) within
 stays_within (WithEffects formula current effects) t l within (inl (Some line, is, e)) =
-    let made = made_is _ _ t e in subst IsWithin (sym made.1) (within.0, few_effects effects line made.0, few_objects effects line within.2)
+    let made = made_is _ _ t e in subst IsWithinLimits (sym made.1) (within.0, few_effects effects line made.0, few_objects effects line within.2)
 stays_within (WithEffects formula current effects) t l within (inr (none, e)) = absurd (not_given t e)
 stays_within (Ended formula current effects) t l within e = absurd (not_given t e)

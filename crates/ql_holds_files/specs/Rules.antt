@@ -30,6 +30,6 @@ rule_at NotForward line = fault.NotForward line
 rule_at OtherObject line = fault.OtherObject line
 rule_at TooMany line = fault.TooMany line
 
-abbrev pub fault_of : FileFault HoldsRule → HoldsFault
-fault_of (file.Broken broken) = rule_at broken.rule broken.line
-fault_of file.NoMemory = fault.NoMemory
+abbrev pub holds_fault_of : FileFault HoldsRule → HoldsFault
+holds_fault_of (file.Broken broken) = rule_at broken.rule broken.line
+holds_fault_of file.NoMemory = fault.NoMemory

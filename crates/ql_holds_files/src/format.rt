@@ -19,7 +19,7 @@ impl LineFormat for Format {
     ghost use Rattle.std.proofs.Math.Logic.{∥∥₁_elim};
     ghost use Rattle.ql_holds_files.specs.declared.reading.Stage.TheVariants.{Unbegun};
     ghost use Rattle.ql_holds_files.specs.HoldsFile.{ExtendsHolds, closed};
-    ghost use Rattle.ql_holds_files.specs.Limits.{IsWithin, stays_within};
+    ghost use Rattle.ql_holds_files.specs.Limits.{IsWithinLimits, stays_within};
     ghost use Rattle.ql_holds_files.specs.NamedOperations.{HasNamedFew, IsShort, shorter, stays_few};
     ghost use Rattle.ql_holds_files.specs.OneLine.{closes_one, closes_some, gives_one, gives_some, one_equation};
 
@@ -31,7 +31,7 @@ impl LineFormat for Format {
 
     ghost start = { λ f. Unbegun };
 
-    ghost sound = { λ f read more. IsWithin read × HasNamedFew read };
+    ghost sound = { λ f read more. IsWithinLimits read × HasNamedFew read };
 
     // Offsets in a contract are numbers of 32 bits.
     ghost allows = { λ f bytes. IsShort bytes };

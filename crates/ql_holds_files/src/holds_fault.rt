@@ -1,5 +1,5 @@
 ghost use Rattle.std.specs.Prelude.{◌≡◌};
-ghost use Rattle.ql_holds_files.specs.Rules.{fault_of};
+ghost use Rattle.ql_holds_files.specs.Rules.{holds_fault_of};
 
 use crate::rules::HoldsRule;
 use ql_lines::{Broken, FileFault};
@@ -34,7 +34,7 @@ pub enum HoldsFault {
 
 /// The public form of a fault.
 pub(crate) fn fault_of(fault: FileFault<HoldsRule>) -> HoldsFault
-    ensures { result ≡ fault_of fault }
+    ensures { result ≡ holds_fault_of fault }
 {
     match fault {
         FileFault::Broken(Broken { line, rule }) => rule.at(line),

@@ -8,7 +8,7 @@ ghost use Rattle.ql_lines.specs.declared.fault.FileFault.TheVariants.{Broken as 
 ghost use Rattle.ql_typing.specs.Faults.{IsRefusal};
 ghost use Rattle.ql_holds_files.specs.ContractLine.{IsContractLine, sentence_faults};
 ghost use Rattle.ql_holds_files.specs.HoldsFile.{ExtendsHolds, ExtendsHoldsAs, IsCurrentLine, IsMore, after_contract, after_more, closed, stage_after};
-ghost use Rattle.ql_holds_files.specs.Limits.{IsWithin};
+ghost use Rattle.ql_holds_files.specs.Limits.{IsWithinLimits};
 ghost use Rattle.ql_holds_files.specs.NamedFormulas.{NamedFormula};
 ghost use Rattle.ql_holds_files.specs.NamedOperations.{HasNamedFew, IsShort, NamesFew};
 ghost use Rattle.ql_holds_files.specs.declared.reading.Stage.TheVariants.{WithEffects};
@@ -50,7 +50,7 @@ pub(crate) fn take(
     number: u64,
     text: &[u8],
 ) -> Result<Stage, LineFault<HoldsRule>>
-    requires within { IsWithin read }
+    requires within { IsWithinLimits read }
     requires few { HasNamedFew read }
     requires short { IsShort (length text.now) }
     ensures { IsLineAnswer (ExtendsHolds read (record { number = number; text = text.now }))

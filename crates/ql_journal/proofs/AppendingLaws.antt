@@ -3,8 +3,8 @@ use Rattle.std.proofs.Common.{◌≡◌, ◌≢◌, ℕ, zero, suc, ◌+◌, ◌
 use Rattle.std.proofs.lemmas.Bool.{cases_eq, lt-leb, le-ltb, and_left, and_right}
 use Rattle.std.proofs.lemmas.List.{append-nil, take_at}
 use Rattle.std.specs.List.{AllByRecursion}
-use Rattle.ql_journal.specs.Bytes.{DiskBytes, IsClean, IsImage, MayLeave, overwritten, in_range}
-use Rattle.ql_journal.specs.Records.{HasRecords, IsClosed, IsLawful, body, records_of}
+use Rattle.ql_journal.specs.Bytes.{DiskBytes, IsClean, IsImage, MayLeave, overwritten, is_in_bytes}
+use Rattle.ql_journal.specs.Records.{HasRecords, IsClosed, HasLawfulIds, body, records_of}
 use Rattle.ql_journal.specs.Images.{IsAppended, IsBeforeOrAfter}
 
 -- ---- images
@@ -54,7 +54,7 @@ records-append (first ∷ records) ids end =
     ap (λ (l : List ℕ). 1 ∷ l) (append_assoc (body first) (records_of (records ++ ids ∷ [])) end ∙ ap (λ (l : List ℕ). body first ++ l) (records-append records ids end)
     ∙ sym (append_assoc (body first) (records_of records) (1 ∷ (body ids ++ end))))
 
-lawful-append : (records : List (List ℕ)) (ids : List ℕ) → AllByRecursion IsLawful records → IsLawful ids → AllByRecursion IsLawful (records ++ ids ∷ [])
+lawful-append : (records : List (List ℕ)) (ids : List ℕ) → AllByRecursion HasLawfulIds records → HasLawfulIds ids → AllByRecursion HasLawfulIds (records ++ ids ∷ [])
 lawful-append [] ids lawful one = (one, tt)
 lawful-append (first ∷ records) ids lawful one = (lawful.0, lawful-append records ids lawful.1 one)
 
@@ -85,7 +85,7 @@ module _ (records : List (List ℕ)) (ids bytes file : List ℕ) (gate : ℕ) (i
   pub staged : (image : List ℕ) → MayLeave file (gate + 1) (length bytes) image → HasRecords records image
   staged image left =
       let size : length (before ++ shut ∷ []) ≡ gate + 1 = omega (arith, length-append before (shut ∷ []), is.gate_is) in
-      let stays = front_stays (before ++ shut ∷ []) behind image (in_range (gate + 1) (length bytes))
+      let stays = front_stays (before ++ shut ∷ []) behind image (is_in_bytes (gate + 1) (length bytes))
       (subst (λ (f : List ℕ). MayLeave f (gate + 1) (length bytes) image) (file_is ∙ gated) left)
       (λ k less. and_left (leb (gate + 1) k) (ltb k ((gate + 1) + length bytes)) (lt-leb (gate + 1) k (omega (arith, less, size)))) in
       record {
@@ -120,12 +120,12 @@ module _ (records : List (List ℕ)) (ids bytes file : List ℕ) (gate : ℕ) (i
       closed = λ never. absurd (omega (arith, never));
     }
 
-    gate_alone : (rest : List ℕ) → IsImage (record { content = shut ∷ tail; base = shut ∷ tail; dirty = λ k. in_range gate 1 (length before + k) }) rest
+    gate_alone : (rest : List ℕ) → IsImage (record { content = shut ∷ tail; base = shut ∷ tail; dirty = λ k. is_in_bytes gate 1 (length before + k) }) rest
         → (h : ℕ) × (more : List ℕ) × (rest ≡ h ∷ (tail ++ more))
     gate_alone [] image = absurd (let short = image.no_shorter in omega (arith, short))
     gate_alone (h ∷ rest) image =
         let short = image.no_shorter in
-        let undirty : (k : ℕ) → in_range gate 1 (length before + suc k) ≡ false =
+        let undirty : (k : ℕ) → is_in_bytes gate 1 (length before + suc k) ≡ false =
         λ k. and_right (leb gate (length before + suc k)) (ltb (length before + suc k) (gate + 1)) (le-ltb (length before + suc k) (gate + 1) (omega (arith, is.gate_is))) in
         let stays = front_stays tail [] rest (λ k. false)
         (record {
@@ -140,7 +140,7 @@ module _ (records : List (List ℕ)) (ids bytes file : List ℕ) (gate : ℕ) (i
     -- while the gate is opened, the record is there or it isn't
     pub opened : (image : List ℕ) → MayLeave mid gate 1 image → IsBeforeOrAfter records ids image
     opened image left =
-        let stays = front_stays before (shut ∷ tail) image (in_range gate 1)
+        let stays = front_stays before (shut ∷ tail) image (is_in_bytes gate 1)
         (subst (λ (f : List ℕ). MayLeave f gate 1 image) mid_is left)
         (λ k less. and_left (leb gate k) (ltb k (gate + 1)) (lt-leb gate k (omega (arith, less, is.gate_is)))) in
         let alone = gate_alone stays.0 stays.2 in

@@ -4,17 +4,17 @@ use Rattle.std.specs.List.{AllByRecursion}
 use Rattle.ql_exec.specs.declared.effect.Effect.{Effect}
 use Rattle.ql_journal.specs.declared.why.StationWhy.{StationWhy}
 use Rattle.ql_journal.specs.declared.why.StationWhy.TheVariants as why
-use Rattle.ql_journal.specs.Records.{HasRecords, IsClosed, IsLawful, body, records_of}
-use Rattle.ql_journal.specs.Ends.{AreKnown, EndsIn, IsBroken, IsDamaged, IsKnown, IsStrange, IsStranger}
-use Rattle.ql_journal.specs.Stations.{IsSound, Recovers, ReportsUnlessNone}
+use Rattle.ql_journal.specs.Records.{HasRecords, IsClosed, HasLawfulIds, body, records_of}
+use Rattle.ql_journal.specs.Ends.{AreCommittedRecords, EndsIn, IsBroken, IsDamaged, IsCommittedPackage, IsStrange, IsStranger}
+use Rattle.ql_journal.specs.Stations.{IsNoFileFault, Recovers, ReportsUnlessNone}
 use Rattle.ql_journal.proofs.Numbers.{body-front}
 
 -- no lawful record of a kind stands first
 abbrev Stops : (List ℕ → Type 0) → List ℕ → Type 0
-Stops K end = (ids more : List ℕ) → IsLawful ids → K ids → end ≡ 1 ∷ (body ids ++ more) → ⊥
+Stops K end = (ids more : List ℕ) → HasLawfulIds ids → K ids → end ≡ 1 ∷ (body ids ++ more) → ⊥
 
 abbrev AreOf : (List ℕ → Type 0) → List (List ℕ) → Type 0
-AreOf K records = AllByRecursion (λ ids. IsLawful ids × K ids) records
+AreOf K records = AllByRecursion (λ ids. HasLawfulIds ids × K ids) records
 
 same_records : (K : List ℕ → Type 0) (records others : List (List ℕ)) (end last : List ℕ) → AreOf K records → AreOf K others
     → records_of records ++ end ≡ records_of others ++ last → Stops K end → Stops K last → (records ≡ others) × (end ≡ last)
@@ -44,11 +44,11 @@ broken_stops : (K : List ℕ → Type 0) (end : List ℕ) → IsBroken end → S
 broken_stops K [] broken ids more lawful k same = absurd (let never : [] ≡ 1 ∷ (body ids ++ more) = same in cc)
 broken_stops K (gate ∷ rest) broken ids more lawful k same = broken.1 ids more lawful (ap (λ (l : List ℕ). drop 1 l) same)
 
-strange_stops : (x : List Effect) (committed end : List ℕ) → IsStrange x committed end → Stops (IsKnown x committed) end
+strange_stops : (x : List Effect) (committed end : List ℕ) → IsStrange x committed end → Stops (IsCommittedPackage x committed) end
 strange_stops x committed [] strange ids more lawful known same = absurd strange
 strange_stops x committed (gate ∷ rest) strange ids more lawful known same =
     let is = body-front strange.1 ids strange.2 more strange.3 lawful (sym strange.4 ∙ ap (λ (l : List ℕ). drop 1 l) same) in
-    strange.5 (subst (IsKnown x committed) (sym is.0) known)
+    strange.5 (subst (IsCommittedPackage x committed) (sym is.0) known)
 
 closed_or_broken : (end : List ℕ) → IsClosed end → IsBroken end → ⊥
 closed_or_broken [] closed broken = closed
@@ -64,7 +64,7 @@ broken_or_strange x committed (gate ∷ rest) broken strange = broken.1 strange.
 
 -- ---- one list of records
 
-lawful_of : (records : List (List ℕ)) → AllByRecursion IsLawful records → AreOf (λ ids. Unit {0}) records
+lawful_of : (records : List (List ℕ)) → AllByRecursion HasLawfulIds records → AreOf (λ ids. Unit {0}) records
 lawful_of [] lawful = tt
 lawful_of (ids ∷ records) lawful = ((lawful.0, tt), lawful_of records lawful.1)
 
@@ -77,13 +77,13 @@ one_list records others file has is =
 
 module _ {T : Type 0} (x : List Effect) (committed file : List ℕ) (P : T → Type 0) where
   abbrev K : List ℕ → Type 0
-  K = IsKnown x committed
+  K = IsCommittedPackage x committed
 
-  both : (records : List (List ℕ)) (end : List ℕ) (at : ℕ) (Q : List ℕ → Type 0) → AreKnown x committed records → file ≡ records_of records ++ end → Stops K end
+  both : (records : List (List ℕ)) (end : List ℕ) (at : ℕ) (Q : List ℕ → Type 0) → AreCommittedRecords x committed records → file ≡ records_of records ++ end → Stops K end
       → (e : EndsIn x committed file at Q) → Stops K e.end → (records ≡ e.records) × (end ≡ e.end)
   both records end at Q known split stops e ends = same_records K records e.records end e.end known e.known (sym split ∙ e.split) stops ends
 
-  pub sound : (records : List (List ℕ)) → AreKnown x committed records → HasRecords records file → (result : Result T StationWhy) → Recovers P x committed file result → IsSound result
+  pub sound : (records : List (List ℕ)) → AreCommittedRecords x committed records → HasRecords records file → (result : Result T StationWhy) → Recovers P x committed file result → IsNoFileFault result
   sound records known has (Ok value) is = tt
   sound records known has (Err why.Failed) is = tt
   sound records known has (Err why.Reopen) is = is
@@ -96,7 +96,7 @@ module _ {T : Type 0} (x : List Effect) (committed file : List ℕ) (P : T → T
   sound records known has (Err why.NoMemory) is = tt
 
   -- a file of known records is no other
-  module _ (has : (value : T) → P value → (records : List (List ℕ)) × AreKnown x committed records × HasRecords records file) where
+  module _ (has : (value : T) → P value → (records : List (List ℕ)) × AreCommittedRecords x committed records × HasRecords records file) where
     pub damaged : (at : ℕ) → IsDamaged x committed file at → (result : Result T StationWhy) → Recovers P x committed file result → ReportsUnlessNone (why.Damaged at) result
     damaged at broken (Ok value) is =
         let h = has value is in

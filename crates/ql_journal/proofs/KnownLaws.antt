@@ -8,8 +8,8 @@ use Rattle.ql_exec.specs.Relations.{sametxn}
 use Rattle.ql_holder.specs.Closed.{Has}
 use Rattle.ql_holder.specs.Needs.{IsPackage}
 use Rattle.ql_holder.proofs.Packages.{package-each, sametxn-along, sametxn-there}
-use Rattle.ql_journal.specs.Records.{IsLawful}
-use Rattle.ql_journal.specs.Within.{AgreesUpTo, AreWithin}
+use Rattle.ql_journal.specs.Records.{HasLawfulIds}
+use Rattle.ql_journal.specs.Within.{AgreesUpTo, AreAllAmong}
 
 same_bool : (a b : Bool) → (a ≡ true → b ≡ true) → (b ≡ true → a ≡ true) → a ≡ b
 same_bool true b to back = sym (to refl)
@@ -24,7 +24,7 @@ place (id ∷ ids) a has = elim (or_cases (eqb id a) (has_id ids a) has) [
   | inr later ↦ let found = place ids a later in (suc found.0, let less = found.1 in omega (arith, less), found.2)
 ]
 
-module _ (x : List Effect) (ids : List ℕ) (lawful : IsLawful ids) where
+module _ (x : List Effect) (ids : List ℕ) (lawful : HasLawfulIds ids) where
   abbrev first : ℕ
   first = get_or ids 0 0
 
@@ -71,14 +71,14 @@ module _ (x : List Effect) (ids : List ℕ) (lawful : IsLawful ids) where
   pub last_within : IsPackage x ids → last ≤ length x
   last_within p = (sametxn-there x p.member last p.first p.last (sym (p.all last) ∙ has-last)).1
 
-pub within-each : (others ids : List ℕ) → AreWithin others ids → (a : ℕ) → Has ids a → Has others a
+pub within-each : (others ids : List ℕ) → AreAllAmong others ids → (a : ℕ) → Has ids a → Has others a
 within-each others [] within a has = absurd (false≢true has)
 within-each others (id ∷ ids) within a has = elim (or_cases (eqb id a) (has_id ids a) has) [
   | inl here ↦ rw (← eqb-true id a here) within.0
   | inr later ↦ within-each others ids within.1 a later
 ]
 
-pub within-from : (others ids : List ℕ) → ((a : ℕ) → Has ids a → Has others a) → AreWithin others ids
+pub within-from : (others ids : List ℕ) → ((a : ℕ) → Has ids a → Has others a) → AreAllAmong others ids
 within-from others [] each = tt
 within-from others (id ∷ ids) each = (
   each id (or_left (eqb id id) (has_id ids id) (eq-eqb id id refl)),

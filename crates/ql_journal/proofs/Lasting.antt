@@ -1,11 +1,11 @@
 -- What a stop may leave in the two calls of a write that is to last.
 use Rattle.std.proofs.Common.{◌≡◌, ℕ, Result, Ok, Err, OnOk, OnErr, ◌<◌, ◌≤◌, false, List, length, get_or, refl, sym, ◌∙◌, subst, arith}
-use Rattle.ql_journal.specs.Bytes.{DiskBytes, IsImage, IsClean, IsWritten, IsTorn, IsSynced, MayLeave, overwritten, in_range}
+use Rattle.ql_journal.specs.Bytes.{DiskBytes, IsImage, IsClean, IsWrittenAt, IsTorn, IsSynced, MayLeave, overwritten, is_in_bytes}
 use Rattle.ql_journal.proofs.Overwriting.{outside, length-overwritten}
 
 module _ (old : DiskBytes) (clean : IsClean old) (at size : ℕ) where
   -- an image of a disk with the same base, of which nothing outside the range is dirty
-  ranged : (new : DiskBytes) → new.base ≡ old.base → ((k : ℕ) → in_range at size k ≡ false → new.dirty k ≡ false)
+  ranged : (new : DiskBytes) → new.base ≡ old.base → ((k : ℕ) → is_in_bytes at size k ≡ false → new.dirty k ≡ false)
       → (image : List ℕ) → IsImage new image → MayLeave old.content at size image
   ranged new base undirty image is = record {
     no_shorter = subst (λ (b : List ℕ). length b ≤ length image) (base ∙ clean.base) is.no_shorter;
@@ -21,14 +21,14 @@ module _ (old : DiskBytes) (clean : IsClean old) (at size : ℕ) where
   torn new is = ranged new is.base (λ k out. is.outside k out ∙ clean.clean k)
 
 module _ (old : DiskBytes) (clean : IsClean old) (at : ℕ) (bytes : List ℕ) where
-  pub written : (new : DiskBytes) → IsWritten at bytes old new → (image : List ℕ) → IsImage new image → MayLeave old.content at (length bytes) image
+  pub written : (new : DiskBytes) → IsWrittenAt at bytes old new → (image : List ℕ) → IsImage new image → MayLeave old.content at (length bytes) image
   written new is = ranged old clean at (length bytes) new is.base (λ k out. is.dirty k ∙ rw (clean.clean k, out) refl)
 
   -- the disk after both calls
-  pub content : (mid new : DiskBytes) → IsWritten at bytes old mid → IsSynced mid new → new.content ≡ overwritten old.content at bytes
+  pub content : (mid new : DiskBytes) → IsWrittenAt at bytes old mid → IsSynced mid new → new.content ≡ overwritten old.content at bytes
   content mid new is synced = synced.content ∙ is.content
 
-  pub lasting : (mid new : DiskBytes) → at ≤ length old.content → IsWritten at bytes old mid → IsSynced mid new
+  pub lasting : (mid new : DiskBytes) → at ≤ length old.content → IsWrittenAt at bytes old mid → IsSynced mid new
       → (image : List ℕ) → IsImage new image → MayLeave old.content at (length bytes) image
   lasting mid new within is synced image left =
       let base : new.base ≡ overwritten old.content at bytes = synced.base ∙ is.content in
@@ -42,7 +42,7 @@ module _ (old : DiskBytes) (clean : IsClean old) (at : ℕ) (bytes : List ℕ) w
       }
 
   -- the same, whether the sync is done or not
-  pub at_last : {T E : Type 0} (result : Result T E) (mid new : DiskBytes) → at ≤ length old.content → IsWritten at bytes old mid
+  pub at_last : {T E : Type 0} (result : Result T E) (mid new : DiskBytes) → at ≤ length old.content → IsWrittenAt at bytes old mid
       → OnOk result (IsSynced mid new) → OnErr result (new ≡ mid)
       → (image : List ℕ) → IsImage new image → MayLeave old.content at (length bytes) image
   at_last (Ok value) mid new within is synced same image left = lasting mid new within is synced image left

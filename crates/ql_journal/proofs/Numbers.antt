@@ -6,16 +6,16 @@ use Rattle.std.specs.Int.{w32, from_be_bytes}
 use Rattle.std.specs.List.{AllByRecursion}
 use Rattle.ql_base.specs.IdLists.{IsAscending, with_id}
 use Rattle.ql_base.proofs.IdLemmas.{IsBelowAll-below, with_id-later}
-use Rattle.ql_journal.specs.Records.{IsLawful, body, number, numbers}
+use Rattle.ql_journal.specs.Records.{HasLawfulIds, body, number, number_bytes}
 
 abbrev Small : List ℕ → Type 0
 Small ids = AllByRecursion (λ id. id < 2 ^ 32) ids
 
-pub length-numbers : (ids : List ℕ) → length (numbers ids) ≡ 4 * length ids
+pub length-numbers : (ids : List ℕ) → length (number_bytes ids) ≡ 4 * length ids
 length-numbers [] = refl
-length-numbers (id ∷ ids) = omega (arith, length-numbers ids, length-append (number id) (numbers ids))
+length-numbers (id ∷ ids) = omega (arith, length-numbers ids, length-append (number id) (number_bytes ids))
 
-pub numbers-append : (ids : List ℕ) (id : ℕ) (rest : List ℕ) → numbers (ids ++ id ∷ []) ++ rest ≡ numbers ids ++ (number id ++ rest)
+pub numbers-append : (ids : List ℕ) (id : ℕ) (rest : List ℕ) → number_bytes (ids ++ id ∷ []) ++ rest ≡ number_bytes ids ++ (number id ++ rest)
 numbers-append [] id rest = refl
 numbers-append (i ∷ ids) id rest = ap (λ (l : List ℕ). number i ++ l) (numbers-append ids id rest)
 
@@ -28,19 +28,19 @@ number-front m n a b small less same =
       ap (λ (l : List ℕ). drop 4 l) same,
     )
 
-pub numbers-front : (ids others a b : List ℕ) → length ids ≡ length others → Small ids → Small others → numbers ids ++ a ≡ numbers others ++ b
+pub numbers-front : (ids others a b : List ℕ) → length ids ≡ length others → Small ids → Small others → number_bytes ids ++ a ≡ number_bytes others ++ b
     → (ids ≡ others) × (a ≡ b)
 numbers-front [] [] a b size small less same = (refl, same)
 numbers-front [] (other ∷ others) a b size small less same = absurd (omega (arith, size))
 numbers-front (id ∷ ids) [] a b size small less same = absurd (omega (arith, size))
 numbers-front (id ∷ ids) (other ∷ others) a b size small less same =
-    let first = number-front id other (numbers ids ++ a) (numbers others ++ b) small.0 less.0 same in
+    let first = number-front id other (number_bytes ids ++ a) (number_bytes others ++ b) small.0 less.0 same in
     let rest = numbers-front ids others a b (omega (arith, size)) small.1 less.1 first.1 in
     (ap (λ (i : ℕ). i ∷ ids) first.0 ∙ ap (λ (l : List ℕ). other ∷ l) rest.0, rest.1)
 
-pub body-front : (ids others a b : List ℕ) → IsLawful ids → IsLawful others → body ids ++ a ≡ body others ++ b → (ids ≡ others) × (a ≡ b)
+pub body-front : (ids others a b : List ℕ) → HasLawfulIds ids → HasLawfulIds others → body ids ++ a ≡ body others ++ b → (ids ≡ others) × (a ≡ b)
 body-front ids others a b lawful right same =
-    let count = number-front (length ids) (length others) (numbers ids ++ a) (numbers others ++ b) (omega (arith, lawful.few)) (omega (arith, right.few)) same in
+    let count = number-front (length ids) (length others) (number_bytes ids ++ a) (number_bytes others ++ b) (omega (arith, lawful.few)) (omega (arith, right.few)) same in
     numbers-front ids others a b count.0 lawful.are_ids.small right.are_ids.small count.1
 
 -- ---- ids that ascend
@@ -76,25 +76,25 @@ small-append (i ∷ ids) id small less = (small.0, small-append ids id small.1 l
 
 -- an id that doesn't ascend stands in no such list
 pub no_step : (low : ℕ) (ids : List ℕ) (id : ℕ) (after others : List ℕ) → IsAscending (low ∷ others) → Small ids → id < 2 ^ 32 → Small others
-    → numbers ids ++ (number id ++ after) ≡ numbers others → id ≤ last_id low ids → ⊥
+    → number_bytes ids ++ (number id ++ after) ≡ number_bytes others → id ≤ last_id low ids → ⊥
 no_step low [] id after [] above small less others_small same least =
     let long : length (number id ++ after) ≡ 0 = ap length same in
     let size = length-append (number id) after in
     omega (arith, long, size)
 no_step low [] id after (other ∷ others) above small less others_small same least =
-    let first = number-front id other after (numbers others) less others_small.0 same in
+    let first = number-front id other after (number_bytes others) less others_small.0 same in
     let step = above.0.0 in let is = first.0 in omega (arith, step, is, least)
 no_step low (i ∷ ids) id after [] above small less others_small same least =
-    let long : length (number i ++ (numbers ids ++ (number id ++ after))) ≡ 0 = ap length same in
-    let size = length-append (number i) (numbers ids ++ (number id ++ after)) in
+    let long : length (number i ++ (number_bytes ids ++ (number id ++ after))) ≡ 0 = ap length same in
+    let size = length-append (number i) (number_bytes ids ++ (number id ++ after)) in
     omega (arith, long, size)
 no_step low (i ∷ ids) id after (other ∷ others) above small less others_small same least =
-    let first = number-front i other (numbers ids ++ (number id ++ after)) (numbers others) small.0 others_small.0 same in
+    let first = number-front i other (number_bytes ids ++ (number id ++ after)) (number_bytes others) small.0 others_small.0 same in
     no_step i ids id after others (subst (λ (o : ℕ). IsAscending (o ∷ others)) (sym first.0) above.1) small.1 less others_small.1 first.1 least
 
 -- ---- in a walk
 
-pub numbers-take : (ids : List ℕ) (k : ℕ) → k < length ids → numbers (take (suc k) ids) ≡ numbers (take k ids) ++ number (get_or ids k 0)
+pub numbers-take : (ids : List ℕ) (k : ℕ) → k < length ids → number_bytes (take (suc k) ids) ≡ number_bytes (take k ids) ++ number (get_or ids k 0)
 numbers-take [] k less = absurd (omega (arith, less))
 numbers-take (id ∷ ids) zero less = append-nil (number id)
 numbers-take (id ∷ ids) (suc k) less = ap (λ (l : List ℕ). number id ++ l) (numbers-take ids k (omega (arith, less)))

@@ -5,8 +5,8 @@ use Rattle.ql_exec.specs.declared.effect.Effect.{Effect}
 use Rattle.ql_holder.specs.Arrivals.{IsArrival}
 use Rattle.ql_holder.specs.declared.arrival.Arrival.{Arrival}
 use Rattle.ql_journal.specs.Gates.{IsShut}
-use Rattle.ql_journal.specs.Records.{IsClosed, IsLawful, body, in_records, number, numbers, records_of}
-use Rattle.ql_journal.specs.Ends.{AreKnown, IsKnown}
+use Rattle.ql_journal.specs.Records.{IsClosed, HasLawfulIds, body, in_records, number, number_bytes, records_of}
+use Rattle.ql_journal.specs.Ends.{AreCommittedRecords, IsCommittedPackage}
 use Rattle.ql_journal.specs.Stations.{Received}
 use Rattle.ql_journal.proofs.Numbers.{length-numbers}
 use Rattle.ql_journal.proofs.AppendingLaws.{records-append}
@@ -15,12 +15,12 @@ use Rattle.ql_journal.proofs.StationLaws.{has-more, known-append, known-lawful}
 -- known records stand before the rest of the file, and the holder received exactly these
 pub record SoFar {H : Type 0} (received : H → List ℕ) (x : List Effect) (committed file : List ℕ) (holder : H) (rest : List ℕ) : Type 0 where
   pub records : List (List ℕ)
-  pub known : AreKnown x committed records
+  pub known : AreCommittedRecords x committed records
   pub split : file ≡ records_of records ++ rest
   pub ids : (a : ℕ) → has_id (received holder) a ≡ in_records records a
 
 pub length-body : (ids : List ℕ) → length (body ids) ≡ 4 + 4 * length ids
-length-body ids = omega (arith, length-numbers ids, length-append (number (length ids)) (numbers ids))
+length-body ids = omega (arith, length-numbers ids, length-append (number (length ids)) (number_bytes ids))
 
 pub body_inside : (ids entry : List ℕ) (n : ℕ) → entry ≡ body ids ++ drop n entry → 4 + 4 * length ids ≤ length entry
 body_inside ids entry n is =
@@ -30,7 +30,7 @@ body_inside ids entry n is =
 module _ {H : Type 0} (received : H → List ℕ) (x : List Effect) (committed file : List ℕ) where
   -- one record more
   pub step : (holder after : H) (rest entry ids : List ℕ) (n : ℕ) (arrival : Arrival) → SoFar received x committed file holder rest → rest ≡ 1 ∷ entry
-      → IsLawful ids → entry ≡ body ids ++ drop n entry → IsKnown x committed ids → IsArrival x (received holder) ids (received after) arrival
+      → HasLawfulIds ids → entry ≡ body ids ++ drop n entry → IsCommittedPackage x committed ids → IsArrival x (received holder) ids (received after) arrival
       → SoFar received x committed file after (drop n entry)
   step holder after rest entry ids n arrival so_far opens lawful is known came = record {
     records = so_far.records ++ ids ∷ [];

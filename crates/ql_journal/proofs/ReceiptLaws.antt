@@ -12,7 +12,7 @@ use Rattle.ql_holder.specs.declared.arrival.Arrival.TheVariants.{Again, Waits, A
 use Rattle.ql_holder.specs.Closed.{Has}
 use Rattle.ql_holder.specs.Needs.{IsPackage}
 use Rattle.ql_holder.proofs.Packages.{package-member, sametxn-there}
-use Rattle.ql_journal.specs.Records.{HasRecords, IsLawful, body, records_of}
+use Rattle.ql_journal.specs.Records.{HasRecords, HasLawfulIds, body, records_of}
 use Rattle.ql_journal.specs.Images.{IsAppended}
 use Rattle.ql_journal.specs.Stations.{Agrees, IsForetold, end_after, end_of, records_after}
 use Rattle.ql_journal.specs.Sizes.{record_size}
@@ -42,7 +42,7 @@ all_small : (ids : List ℕ) → ((i : ℕ) → get_or ids i 0 < 2 ^ 32) → All
 all_small [] each = tt
 all_small (id ∷ ids) each = (each 0, all_small ids (λ i. each (suc i)))
 
-pub package_lawful : (x : List Effect) (ids : List ℕ) → IsPackage x ids → IsAscending ids → ((i : ℕ) → get_or ids i 0 < 2 ^ 32) → length ids ≤ 4000 → IsLawful ids
+pub package_lawful : (x : List Effect) (ids : List ℕ) → IsPackage x ids → IsAscending ids → ((i : ℕ) → get_or ids i 0 < 2 ^ 32) → length ids ≤ 4000 → HasLawfulIds ids
 package_lawful x ids p ascending small few = record {
   are_ids = record {
     ascending = (positive ids (λ a has. (sametxn-there x p.member a p.first p.last (sym (p.all a) ∙ has)).0), ascending);
@@ -54,7 +54,7 @@ package_lawful x ids p ascending small few = record {
 
 -- ---- where it goes
 
-pub appended_to : {H : Type 0} (received : H → List ℕ) (disk : DiskBytes) (station : Station H) (ids bytes : List ℕ) → Agrees received disk station → IsLawful ids
+pub appended_to : {H : Type 0} (received : H → List ℕ) (disk : DiskBytes) (station : Station H) (ids bytes : List ℕ) → Agrees received disk station → HasLawfulIds ids
     → bytes ≡ body ids ++ 0 ∷ [] → (records : List (List ℕ)) → HasRecords records disk.content → IsAppended records ids (end_of station) bytes disk.content
 appended_to received disk station ids bytes agrees lawful are records has = record {
   lawful = lawful;

@@ -7,8 +7,8 @@ use Rattle.ql_holder.specs.Arrivals.{IsArrival}
 use Rattle.ql_holder.specs.declared.arrival.Arrival.{Arrival}
 use Rattle.ql_holder.specs.declared.arrival.Arrival.TheVariants.{Again, Waits, Applies}
 use Rattle.ql_holder.proofs.IdSets.{has_id-union}
-use Rattle.ql_journal.specs.Records.{IsLawful, in_records}
-use Rattle.ql_journal.specs.Ends.{AreKnown, IsKnown}
+use Rattle.ql_journal.specs.Records.{HasLawfulIds, in_records}
+use Rattle.ql_journal.specs.Ends.{AreCommittedRecords, IsCommittedPackage}
 
 or_false : (b : Bool) → (b || false) ≡ b
 or_false true = refl
@@ -45,11 +45,11 @@ pub has-more : (x : List Effect) (before ids after : List ℕ) (records : List (
 has-more x before ids after records arrival has is a =
     has-received x before ids after arrival is a ∙ ap (λ (b : Bool). b || has_id ids a) (has a) ∙ sym (in_records-append records ids a)
 
-pub known-append : (x : List Effect) (committed : List ℕ) (records : List (List ℕ)) (ids : List ℕ) → AreKnown x committed records → IsLawful ids → IsKnown x committed ids
-    → AreKnown x committed (records ++ ids ∷ [])
+pub known-append : (x : List Effect) (committed : List ℕ) (records : List (List ℕ)) (ids : List ℕ) → AreCommittedRecords x committed records → HasLawfulIds ids → IsCommittedPackage x committed ids
+    → AreCommittedRecords x committed (records ++ ids ∷ [])
 known-append x committed [] ids known lawful is = ((lawful, is), tt)
 known-append x committed (first ∷ records) ids known lawful is = (known.0, known-append x committed records ids known.1 lawful is)
 
-pub known-lawful : (x : List Effect) (committed : List ℕ) (records : List (List ℕ)) → AreKnown x committed records → AllByRecursion IsLawful records
+pub known-lawful : (x : List Effect) (committed : List ℕ) (records : List (List ℕ)) → AreCommittedRecords x committed records → AllByRecursion HasLawfulIds records
 known-lawful x committed [] known = tt
 known-lawful x committed (first ∷ records) known = (known.0.0, known-lawful x committed records known.1)

@@ -21,19 +21,19 @@ abbrev pub overwritten : {X : Type 0} → List X → ℕ → List X → List X
 overwritten old at bytes = take at old ++ (bytes ++ drop (at + length bytes) old)
 
 -- the offset `k` is in the range of `size` bytes from the offset `at` on
-abbrev pub in_range : ℕ → ℕ → ℕ → Bool
-in_range at size k = nat_le at k && nat_lt k (at + size)
+abbrev pub is_in_bytes : ℕ → ℕ → ℕ → Bool
+is_in_bytes at size k = nat_le at k && nat_lt k (at + size)
 
 -- after a write
-pub record IsWritten (at : ℕ) (bytes : List ℕ) (old new : DiskBytes) : Type 0 where
+pub record IsWrittenAt (at : ℕ) (bytes : List ℕ) (old new : DiskBytes) : Type 0 where
   pub content : new.content ≡ overwritten old.content at bytes
   pub base : new.base ≡ old.base
-  pub dirty : (k : ℕ) → new.dirty k ≡ (old.dirty k || in_range at (length bytes) k)
+  pub dirty : (k : ℕ) → new.dirty k ≡ (old.dirty k || is_in_bytes at (length bytes) k)
 
 -- After a write that failed: some of its range may be dirty. Nothing is said of the content.
 pub record IsTorn (at size : ℕ) (old new : DiskBytes) : Type 0 where
   pub base : new.base ≡ old.base
-  pub outside : (k : ℕ) → in_range at size k ≡ false → new.dirty k ≡ old.dirty k
+  pub outside : (k : ℕ) → is_in_bytes at size k ≡ false → new.dirty k ≡ old.dirty k
 
 -- after a sync
 pub record IsSynced (old new : DiskBytes) : Type 0 where
@@ -49,4 +49,4 @@ pub record IsClean (disk : DiskBytes) : Type 0 where
 -- What a stop may leave while a range of these bytes is overwritten: any bytes in that range and past the end, and the
 -- same elsewhere.
 abbrev pub MayLeave : List ℕ → ℕ → ℕ → List ℕ → Type 0
-MayLeave content at size image = IsImage (record { content = content; base = content; dirty = in_range at size }) image
+MayLeave content at size image = IsImage (record { content = content; base = content; dirty = is_in_bytes at size }) image

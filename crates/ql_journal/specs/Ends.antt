@@ -4,30 +4,30 @@ use Rattle.std.specs.List.{AllByRecursion}
 use Rattle.ql_exec.specs.declared.effect.Effect.{Effect}
 use Rattle.ql_holder.specs.Closed.{Has}
 use Rattle.ql_holder.specs.Needs.{IsPackage}
-use Rattle.ql_journal.specs.Records.{IsLawful, body, records_of}
+use Rattle.ql_journal.specs.Records.{HasLawfulIds, body, records_of}
 
 -- a package of committed effects
-abbrev pub IsKnown : List Effect → List ℕ → List ℕ → Type 0
-IsKnown x committed ids = IsPackage x ids × ((a : ℕ) → Has ids a → Has committed a)
+abbrev pub IsCommittedPackage : List Effect → List ℕ → List ℕ → Type 0
+IsCommittedPackage x committed ids = IsPackage x ids × ((a : ℕ) → Has ids a → Has committed a)
 
-abbrev pub AreKnown : List Effect → List ℕ → List (List ℕ) → Type 0
-AreKnown x committed records = AllByRecursion (λ ids. IsLawful ids × IsKnown x committed ids) records
+abbrev pub AreCommittedRecords : List Effect → List ℕ → List (List ℕ) → Type 0
+AreCommittedRecords x committed records = AllByRecursion (λ ids. HasLawfulIds ids × IsCommittedPackage x committed ids) records
 
 -- a gate is expected and isn't there, or no lawful record follows an open gate
 abbrev pub IsBroken : List ℕ → Type 0
 IsBroken [] = Unit {0}
-IsBroken (gate ∷ rest) = (gate ≡ 1) × ((ids more : List ℕ) → IsLawful ids → rest ≡ body ids ++ more → ⊥)
+IsBroken (gate ∷ rest) = (gate ≡ 1) × ((ids more : List ℕ) → HasLawfulIds ids → rest ≡ body ids ++ more → ⊥)
 
 -- a lawful record whose ids aren't a package of committed effects
 abbrev pub IsStrange : List Effect → List ℕ → List ℕ → Type 0
 IsStrange x committed [] = ⊥
 IsStrange x committed (gate ∷ rest) =
-    (gate ≡ 1) × (ids : List ℕ) × (more : List ℕ) × IsLawful ids × (rest ≡ body ids ++ more) × (IsKnown x committed ids → ⊥)
+    (gate ≡ 1) × (ids : List ℕ) × (more : List ℕ) × HasLawfulIds ids × (rest ≡ body ids ++ more) × (IsCommittedPackage x committed ids → ⊥)
 
 -- the file has known records up to an offset, and what follows them has a property
 pub record EndsIn (x : List Effect) (committed file : List ℕ) (at : ℕ) (P : List ℕ → Type 0) : Type 0 where
   pub records : List (List ℕ)
-  pub known : AreKnown x committed records
+  pub known : AreCommittedRecords x committed records
   pub end : List ℕ
   pub split : file ≡ records_of records ++ end
   pub place : at ≡ length (records_of records)

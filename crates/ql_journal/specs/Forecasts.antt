@@ -8,8 +8,8 @@ pub record Forecast : Type 0 where
   pub room : ℕ
 
 -- whether a call that writes up to an offset succeeds
-abbrev pub is_done : Forecast → ℕ → Bool
-is_done forecast end = nat_lt 0 forecast.calls && nat_le end forecast.room
+abbrev pub call_succeeds : Forecast → ℕ → Bool
+call_succeeds forecast end = nat_lt 0 forecast.calls && nat_le end forecast.room
 
 -- what is known after a write or a sync
 abbrev pub next : Forecast → Forecast

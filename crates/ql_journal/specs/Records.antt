@@ -8,13 +8,13 @@ use Rattle.ql_base.specs.IdLists.{IsAscending, has_id}
 abbrev pub number : ℕ → List ℕ
 number n = to_be_bytes w32 n
 
-abbrev pub numbers : List ℕ → List ℕ
-numbers [] = []
-numbers (n ∷ ns) = number n ++ numbers ns
+abbrev pub number_bytes : List ℕ → List ℕ
+number_bytes [] = []
+number_bytes (n ∷ ns) = number n ++ number_bytes ns
 
 -- what follows the gate of a record
 abbrev pub body : List ℕ → List ℕ
-body ids = number (length ids) ++ numbers ids
+body ids = number (length ids) ++ number_bytes ids
 
 -- records with open gates
 abbrev pub records_of : List (List ℕ) → List ℕ
@@ -27,7 +27,7 @@ pub record AreIds (ids : List ℕ) : Type 0 where
   pub small : AllByRecursion (λ id. id < 2 ^ 32) ids
 
 -- the ids that a record may have: 1 to 4000 of them
-pub record IsLawful (ids : List ℕ) : Type 0 where
+pub record HasLawfulIds (ids : List ℕ) : Type 0 where
   pub are_ids : AreIds ids
   pub some : 1 ≤ length ids
   pub few : length ids ≤ 4000
@@ -39,7 +39,7 @@ IsClosed (gate ∷ rest) = gate ≢ 1
 
 -- the file has these records: it starts with them, and a closed gate follows, with anything after it
 pub record HasRecords (records : List (List ℕ)) (file : List ℕ) : Type 0 where
-  pub lawful : AllByRecursion IsLawful records
+  pub lawful : AllByRecursion HasLawfulIds records
   pub end : List ℕ
   pub split : file ≡ records_of records ++ end
   pub closed : IsClosed end

@@ -9,7 +9,7 @@ use Rattle.ql_holder.specs.declared.arrival.Arrival.TheVariants.{Again, Waits, A
 use Rattle.ql_journal.specs.declared.station.Station.{Station}
 use Rattle.ql_journal.specs.declared.why.StationWhy.{StationWhy}
 use Rattle.ql_journal.specs.declared.why.StationWhy.TheVariants as why
-use Rattle.ql_journal.specs.Ends.{AreKnown, IsDamaged, IsStranger}
+use Rattle.ql_journal.specs.Ends.{AreCommittedRecords, IsDamaged, IsStranger}
 use Rattle.ql_journal.specs.Sizes.{record_size}
 use Rattle.ql_journal.specs.Records.{HasRecords, in_records, records_of}
 
@@ -37,7 +37,7 @@ pub record Agrees {H : Type 0} (received : H → List ℕ) (disk : DiskBytes) (s
 -- the holder received exactly the known records that the file has, and they end there
 pub record Received {H : Type 0} (received : H → List ℕ) (x : List Effect) (committed file : List ℕ) (holder : H) (end : ℕ) : Type 0 where
   pub records : List (List ℕ)
-  pub known : AreKnown x committed records
+  pub known : AreCommittedRecords x committed records
   pub has : HasRecords records file
   pub ids : (a : ℕ) → has_id (received holder) a ≡ in_records records a
   pub end_is : end ≡ length (records_of records)
@@ -74,13 +74,13 @@ IsForetold forecast end (Err (why.Stranger at)) after = Unit {0}
 IsForetold forecast end (Err why.NoMemory) after = Unit {0}
 
 -- a result other than a fault of the file
-abbrev pub IsSound : {T : Type 0} → Result T StationWhy → Type 0
-IsSound (Ok value) = Unit {0}
-IsSound (Err why.Failed) = Unit {0}
-IsSound (Err why.Reopen) = ⊥
-IsSound (Err (why.Damaged at)) = ⊥
-IsSound (Err (why.Stranger at)) = ⊥
-IsSound (Err why.NoMemory) = Unit {0}
+abbrev pub IsNoFileFault : {T : Type 0} → Result T StationWhy → Type 0
+IsNoFileFault (Ok value) = Unit {0}
+IsNoFileFault (Err why.Failed) = Unit {0}
+IsNoFileFault (Err why.Reopen) = ⊥
+IsNoFileFault (Err (why.Damaged at)) = ⊥
+IsNoFileFault (Err (why.Stranger at)) = ⊥
+IsNoFileFault (Err why.NoMemory) = Unit {0}
 
 -- this cause is returned, unless the disk fails or memory runs out
 abbrev pub ReportsUnlessNone : {T : Type 0} → StationWhy → Result T StationWhy → Type 0

@@ -5,9 +5,9 @@ use Rattle.ql_exec.specs.declared.effect.Effect.{Effect}
 use Rattle.ql_exec.specs.Relations.{sametxn}
 
 -- each id is one of the others
-abbrev pub AreWithin : List ℕ → List ℕ → Type 0
-AreWithin others [] = Unit {0}
-AreWithin others (id ∷ ids) = (has_id others id ≡ true) × AreWithin others ids
+abbrev pub AreAllAmong : List ℕ → List ℕ → Type 0
+AreAllAmong others [] = Unit {0}
+AreAllAmong others (id ∷ ids) = (has_id others id ≡ true) × AreAllAmong others ids
 
 -- among the ids up to a bound, these are those of the effect's transaction
 abbrev pub AgreesUpTo : List Effect → ℕ → List ℕ → ℕ → Type 0

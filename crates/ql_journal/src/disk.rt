@@ -1,8 +1,8 @@
 ghost use Rattle.std.specs.Prelude.{◌≡◌, ◌<◌, ◌≤◌, ◌+◌, ◌^◌, ◌&&◌, ℕ, List, Option, Some, length, take, drop, IfOk, OnOk, OnErr, IfSome, OnSome, IsOk};
 ghost use Rattle.std.specs.Result.{is_ok};
 ghost use Rattle.ql_ports.specs.Faults.{Rose};
-ghost use Rattle.ql_journal.specs.Bytes.{DiskBytes, IsImage, IsWritten, IsTorn, IsSynced};
-ghost use Rattle.ql_journal.specs.Forecasts.{Forecast, is_done, next};
+ghost use Rattle.ql_journal.specs.Bytes.{DiskBytes, IsImage, IsWrittenAt, IsTorn, IsSynced};
+ghost use Rattle.ql_journal.specs.Forecasts.{Forecast, call_succeeds, next};
 ghost use Rattle.ql_journal.specs.Moments.{Elapses};
 
 use ql_ports::Failed;
@@ -61,7 +61,7 @@ pub trait Disk {
         requires begins { reports → at ≤ length (held self.old).content }
         requires ends { at + length bytes.now < 2 ^ 40 }
         ensures written { reports
-            → OnOk result (IsWritten at bytes.now (held self.old) (held self.new)) }
+            → OnOk result (IsWrittenAt at bytes.now (held self.old) (held self.new)) }
         ensures torn { reports → OnErr result
             (IsTorn at (length bytes.now) (held self.old) (held self.new)) }
         ensures time { reports → Elapses (moment self.old) (moment self.new) (left_since self.old)
@@ -69,7 +69,7 @@ pub trait Disk {
         ensures failed { OnErr result (Rose (faults self.old) (faults self.new)) }
         ensures count_stays { faults self.old ≤ faults self.new }
         ensures foretold { IfSome (forecast self.old)
-            (λ f. is_ok result ≡ is_done f (at + length bytes.now)) }
+            (λ f. is_ok result ≡ call_succeeds f (at + length bytes.now)) }
         ensures forecast { IfSome (forecast self.old) (λ f. forecast self.new ≡ Some (next f)) };
 
     /// Makes the content durable: after `Ok`, a stop leaves what a read returns, with anything past its end. After
@@ -81,7 +81,7 @@ pub trait Disk {
             (left_since self.new) (held self.new) }
         ensures failed { OnErr result (Rose (faults self.old) (faults self.new)) }
         ensures count_stays { faults self.old ≤ faults self.new }
-        ensures foretold { IfSome (forecast self.old) (λ f. is_ok result ≡ is_done f 0) }
+        ensures foretold { IfSome (forecast self.old) (λ f. is_ok result ≡ call_succeeds f 0) }
         ensures forecast { IfSome (forecast self.old) (λ f. forecast self.new ≡ Some (next f)) };
 
     // What a read returns is an image.

@@ -2,7 +2,7 @@ ghost use Rattle.std.specs.Prelude.{◌≡◌, ◌≤◌, IsOk, IsErr, OnErr};
 ghost use Rattle.std.specs.Result.{is_ok};
 ghost use Rattle.ql_ports.specs.Faults.{Rose, next_count_of};
 ghost use Rattle.ql_journal.specs.Forecasts.{Forecast};
-ghost use Rattle.ql_journal.specs.Unreported.{unknown, unreported};
+ghost use Rattle.ql_journal.specs.Unreported.{unknown, unreported_disk};
 
 use crate::disk::Disk;
 use ql_ports::Failed;
@@ -52,7 +52,7 @@ impl Disk for FileDisk {
 
     ghost reports = { ⊥ };
 
-    ghost held = { λ disk. unreported };
+    ghost held = { λ disk. unreported_disk };
 
     ghost moment = { λ disk. 0 };
 

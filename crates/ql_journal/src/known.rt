@@ -1,8 +1,8 @@
 ghost use Rattle.std.specs.Prelude.{◌≡◌, ◌↔◌, ◌≤◌, true, length};
 ghost use Rattle.ql_holder.specs.Needs.{IsPackage};
-ghost use Rattle.ql_journal.specs.Ends.{IsKnown};
-ghost use Rattle.ql_journal.specs.Within.{AgreesUpTo, AreWithin};
-ghost use Rattle.ql_journal.specs.Records.{IsLawful};
+ghost use Rattle.ql_journal.specs.Ends.{IsCommittedPackage};
+ghost use Rattle.ql_journal.specs.Within.{AgreesUpTo, AreAllAmong};
+ghost use Rattle.ql_journal.specs.Records.{HasLawfulIds};
 
 use ql_base::IdSet;
 use ql_exec::Execution;
@@ -10,14 +10,14 @@ use ql_holder::is_same_txn;
 
 /// Whether the ids are a package of committed effects.
 pub(crate) fn is_known(x: &Execution, committed: &IdSet, ids: &IdSet) -> bool
-    requires { IsLawful ids.now }
-    ensures { (result ≡ true) ↔ IsKnown x.now committed.now ids.now }
+    requires { HasLawfulIds ids.now }
+    ensures { (result ≡ true) ↔ IsCommittedPackage x.now committed.now ids.now }
 {
     is_package(x, ids) && are_in(ids.items(), committed)
 }
 
 fn is_package(x: &Execution, ids: &IdSet) -> bool
-    requires { IsLawful ids.now }
+    requires { HasLawfulIds ids.now }
     ensures { (result ≡ true) ↔ IsPackage x.now ids.now }
 {
     let (first, last) = (ids.get(0), ids.get(ids.len() - 1));
@@ -42,7 +42,7 @@ fn is_package_of(x: &Execution, member: u32, ids: &IdSet) -> bool
 }
 
 fn are_in(ids: &[u32], others: &IdSet) -> bool
-    ensures { (result ≡ true) ↔ AreWithin others.now ids.now }
+    ensures { (result ≡ true) ↔ AreAllAmong others.now ids.now }
 {
     let mut rest = ids;
     while let [id, after @ ..] = rest {

@@ -1,5 +1,5 @@
 ghost use Rattle.std.specs.Prelude.{◌≡◌, ◌≤◌, ◌+◌, ℕ, length, vec_len, vec_capacity, ◌||◌, ◌∷◌, false, IfOk};
-ghost use Rattle.ql_journal.specs.Bytes.{IsImage, overwritten, in_range};
+ghost use Rattle.ql_journal.specs.Bytes.{IsImage, overwritten, is_in_bytes};
 ghost use Rattle.ql_journal.specs.Marks.{is_marked, marked_bytes};
 
 use crate::disk::Disk;
@@ -86,7 +86,7 @@ impl MemDisk {
 }
 
 impl Disk for MemDisk {
-    ghost use Rattle.ql_journal.specs.MemDisks.{bytes_of, faults_of, forecast_of};
+    ghost use Rattle.ql_journal.specs.MemDisks.{bytes_of, disk_faults, forecast_of};
     ghost use Rattle.ql_journal.specs.Bytes.{IsImage};
 
     ghost reports = { Unit {0} };
@@ -97,7 +97,7 @@ impl Disk for MemDisk {
 
     ghost left_since = { λ disk t image. IsImage (bytes_of disk) image };
 
-    ghost faults = { faults_of };
+    ghost faults = { disk_faults };
 
     ghost forecast = { forecast_of };
 
@@ -168,7 +168,7 @@ fn mark(marks: &mut Vec<bool>, at: usize, size: usize)
     requires { at + size ≤ length marks.old.items }
     ensures length { length marks.new.items ≡ length marks.old.items }
     ensures marked { (k : ℕ)
-        → is_marked marks.new.items k ≡ (is_marked marks.old.items k || in_range at size k) }
+        → is_marked marks.new.items k ≡ (is_marked marks.old.items k || is_in_bytes at size k) }
 {
     mark_in(marks.as_mut_slice(), at, size);
 }
@@ -177,7 +177,7 @@ fn mark_in(marks: &mut [bool], at: usize, size: usize)
     requires { at + size ≤ length marks.old }
     ensures length { length marks.new ≡ length marks.old }
     ensures marked { (k : ℕ)
-        → is_marked marks.new k ≡ (is_marked marks.old k || in_range at size k) }
+        → is_marked marks.new k ≡ (is_marked marks.old k || is_in_bytes at size k) }
 {
     marks[at..at + size].fill(true);
 }

@@ -1,5 +1,5 @@
 ghost use Rattle.std.specs.Prelude.{◌≡◌, ◌↔◌, ◌≤◌, true, ◌++◌, ◌*◌, ◌+◌, ℕ, List, length, drop, IfOk, MatchOption};
-ghost use Rattle.ql_journal.specs.Records.{AreIds, IsLawful, body, number, numbers};
+ghost use Rattle.ql_journal.specs.Records.{AreIds, HasLawfulIds, body, number, number_bytes};
 
 use ql_base::{IdSet, MAX_EVENTS, NoMemory};
 use std::alloc::Global;
@@ -8,8 +8,8 @@ use std::alloc::Global;
 pub(crate) fn ids_of_record(alloc: Global, bytes: &[u8]) -> Result<Option<IdSet>, NoMemory>
     ensures { IfOk result
         (λ found. MatchOption found
-        ((ids more : List ℕ) → IsLawful ids → bytes.now ≡ body ids ++ more → ⊥)
-        (λ ids. IsLawful ids × (bytes.now ≡ body ids ++ drop (4 + 4 * length ids) bytes.now))) }
+        ((ids more : List ℕ) → HasLawfulIds ids → bytes.now ≡ body ids ++ more → ⊥)
+        (λ ids. HasLawfulIds ids × (bytes.now ≡ body ids ++ drop (4 + 4 * length ids) bytes.now))) }
 {
     if bytes.len() < 4 {
         return Ok(None);
@@ -33,8 +33,8 @@ fn is_whole(count: usize, room: usize) -> bool
 fn ids_in(alloc: Global, bytes: &[u8]) -> Result<Option<IdSet>, NoMemory>
     requires { (n : ℕ) × (length bytes.now ≡ 4 * n) }
     ensures { IfOk result
-        (λ found. MatchOption found ((ids : List ℕ) → AreIds ids → bytes.now ≡ numbers ids → ⊥)
-        (λ ids. AreIds ids × (bytes.now ≡ numbers ids))) }
+        (λ found. MatchOption found ((ids : List ℕ) → AreIds ids → bytes.now ≡ number_bytes ids → ⊥)
+        (λ ids. AreIds ids × (bytes.now ≡ number_bytes ids))) }
 {
     let mut ids = IdSet::new(alloc);
     let mut last = 0;

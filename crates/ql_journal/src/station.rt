@@ -9,14 +9,14 @@ ghost use Rattle.ql_holder.specs.declared.arrival.Arrival.TheVariants.{Again};
 ghost use Rattle.ql_holder.specs.Needs.{IsPackage};
 ghost use Rattle.ql_ports.specs.Faults.{Rose};
 ghost use Rattle.ql_journal.specs.declared.why.StationWhy.TheVariants as why;
-ghost use Rattle.ql_journal.specs.Ends.{AreKnown, IsDamaged, IsStranger};
+ghost use Rattle.ql_journal.specs.Ends.{AreCommittedRecords, IsDamaged, IsStranger};
 ghost use Rattle.ql_journal.specs.Images.{IsBeforeOrAfter};
 ghost use Rattle.ql_journal.specs.Records.{HasRecords};
 ghost use Rattle.ql_journal.specs.Sizes.{record_size};
 ghost use Rattle.ql_journal.specs.Stations.{
   Agrees,
   IsOfRecovery,
-  IsSound,
+  IsNoFileFault,
   Received,
   Recovers,
   ReportsUnlessNone,
@@ -100,8 +100,8 @@ impl<H: Holder> Station<H> {
             x.now committed.now (D.held disk.old).content result }
 
         // Which files have which result.
-        ensures sound { D.reports → (records : List (List ℕ)) → AreKnown x.now committed.now records
-            → HasRecords records (D.held disk.old).content → IsSound result }
+        ensures sound { D.reports → (records : List (List ℕ)) → AreCommittedRecords x.now committed.now records
+            → HasRecords records (D.held disk.old).content → IsNoFileFault result }
         ensures damaged { D.reports → (at : ℕ)
             → IsDamaged x.now committed.now (D.held disk.old).content at
             → ReportsUnlessNone (why.Damaged at) result }

@@ -22,7 +22,7 @@ use Rattle.ql_machine.specs.declared.reply.Reply.TheVariants.{Blocked}
 use Rattle.ql_machine.specs.State.{Machine, NeedsNow, committed, message_at, open_of, received_at}
 use Rattle.ql_machine.specs.Rules.{Call, Rules}
 use Rattle.ql_machine.specs.Sets.{AreThose}
-use Rattle.ql_machine.specs.Views.{Applied, InView, PlainScope, Scope}
+use Rattle.ql_machine.specs.Views.{HasApplied, InView, PlainScope, Scope}
 use Rattle.ql_machine.specs.Blocking.{IsAtHand, IsMissing, IsOf, MissingInTxn, MustSee}
 use Rattle.ql_machine.specs.Changes.{effect_made, is_sent}
 use Rattle.ql_machine.specs.Calls.{HasOpen, IsCall, after_plain, blocked, held, makes, makes_own, makes_strong, unavailable, undeclared, unused}
@@ -89,7 +89,7 @@ module _ (rules : Rules) (start : ℕ) (s : Machine) (keeps : Keeps rules.promis
       only = keeps.stored.held r;
     }
 
-    pub applied : (r : ℕ) → r < start → (a : ℕ) → Applied s r a ↔ IsDone s.effects s.open_txns a
+    pub applied : (r : ℕ) → r < start → (a : ℕ) → HasApplied s r a ↔ IsDone s.effects s.open_txns a
     applied r less a = (
       λ closed. keeps.stored.held r a (closed-member (NeedsNow s.effects s.open_txns) (Has (received_at s.received r)) a closed),
       λ done.

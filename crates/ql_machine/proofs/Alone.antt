@@ -12,7 +12,7 @@ use Rattle.ql_machine.specs.declared.message.Message.{Message}
 use Rattle.ql_machine.specs.declared.open_txn.OpenTxn.{OpenTxn}
 use Rattle.ql_machine.specs.State.{Machine, NeedsNow, committed, message_at, received_at}
 use Rattle.ql_machine.specs.Rules.{Promises}
-use Rattle.ql_machine.specs.Views.{Applied, AppliedWithOwn}
+use Rattle.ql_machine.specs.Views.{HasApplied, AppliedWithOwn}
 use Rattle.ql_machine.specs.Sets.{AreThose}
 use Rattle.ql_machine.specs.Changes.{received_by_all}
 use Rattle.ql_holder.proofs.IdSets.{in_union-cases, in_union-right, same_ids}
@@ -40,7 +40,7 @@ module _ (promises : Promises) (start : ℕ) (s : Machine) (keeps : Keeps promis
   pub reaches-same : (a b : ℕ) → IsDone s.effects s.open_txns a → Reaches (NeedsNow s.effects s.open_txns) a b ↔ Reaches (Needs s.effects) a b
   reaches-same a b done = (λ reached. reached-more (NeedsNow s.effects s.open_txns) (Needs s.effects) needs-any a b reached, λ reached. (reaches-now a b done reached).0)
 
-  pub applied-same : (r a : ℕ) → Applied s r a ↔ Closed (Needs s.effects) (Has (received_at s.received r)) a
+  pub applied-same : (r a : ℕ) → HasApplied s r a ↔ Closed (Needs s.effects) (Has (received_at s.received r)) a
   applied-same r a = (
     λ closed b reached.
         let done = keeps.stored.held r a (closed-member (NeedsNow s.effects s.open_txns) (Has (received_at s.received r)) a closed) in

@@ -26,7 +26,7 @@ use Rattle.ql_machine.specs.Rules.{Call, Rules}
 use Rattle.ql_machine.specs.Views.{AppliedWithOwn, InView, PlainScope, Scope, TxnScope}
 use Rattle.ql_machine.specs.Blocking.{IsOf, MustHave, MustSee, NoneMissingInTxn, SawOfOthers}
 use Rattle.ql_machine.specs.Calls.{IsFree, MayAnswer, MayCall}
-use Rattle.ql_machine.specs.Changes.{draft_of, effect_made, member_of}
+use Rattle.ql_machine.specs.Changes.{draft_of_call, effect_made, member_of}
 use Rattle.ql_machine.specs.Kept.{IsDone, IsOpen, IsStrong, Keeps, TxnsKept}
 use Rattle.ql_machine.proofs.Pushed.{inside-found, inside-from, object-found, same_session, step-object}
 use Rattle.ql_machine.proofs.Made.{IsAlone, IsBeside, IsMade, IsMadeIn}
@@ -183,7 +183,7 @@ module _ (rules : Rules) (start : ℕ) (s : Machine) (c : Call) (seen : List ℕ
 
   made-grown : IsExecution (s.effects ++ effect_made rules s c seen ∷ [])
   made-grown =
-      IsExecution-push s.effects (draft_of c now (rules.answer c.op c.args (seen_in_order s.effects seen)) seen) keeps.sound.execution earlier
+      IsExecution-push s.effects (draft_of_call c now (rules.answer c.op c.args (seen_in_order s.effects seen)) seen) keeps.sound.execution earlier
       (splits-none s.effects s.open_txns s.begun keeps.sound.execution keeps.sound.txns c.session now refl)
 
   -- a call in a transaction

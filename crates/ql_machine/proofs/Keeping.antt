@@ -27,7 +27,7 @@ use Rattle.ql_machine.specs.declared.reply.Reply.{Reply}
 use Rattle.ql_machine.specs.State.{Machine, NeedsNow, committed, empty, message_at, received_at, replicas}
 use Rattle.ql_machine.specs.Rules.{Call, Promises, Rules}
 use Rattle.ql_machine.specs.Sets.{AreThose}
-use Rattle.ql_machine.specs.Views.{Applied}
+use Rattle.ql_machine.specs.Views.{HasApplied}
 use Rattle.ql_machine.specs.Changes.{effect_made, is_sent, member_of, message_of, package_to_others, received_by, received_by_all, recounted, to_others, without}
 use Rattle.ql_machine.specs.Calls.{HasNoneOpen, HasOpen, IsCall, MayAnswer, after_own, after_plain, after_strong, blocked, held, makes, makes_own, makes_strong, unavailable, undeclared, unused}
 use Rattle.ql_machine.specs.Deliveries.{IsDelivery, after_receipt, again, applies, cut, gone, waits}
@@ -314,7 +314,7 @@ module _ (promises : Promises) (start : ℕ) (s : Machine) (keeps : Keeps promis
 -- ---- transactions
 
 module _ (promises : Promises) (start : ℕ) (s : Machine) (keeps : Keeps promises start s) where
-  keeps-begin : (session : SessId) (replica : ReplicaId) (decl : DeclId) (objects snapshot : List ℕ) → replica.0 < replicas s → AreThose (Applied s replica.0) snapshot
+  keeps-begin : (session : SessId) (replica : ReplicaId) (decl : DeclId) (objects snapshot : List ℕ) → replica.0 < replicas s → AreThose (HasApplied s replica.0) snapshot
       → Keeps promises start (after_begin s session decl objects snapshot)
   keeps-begin session replica decl objects snapshot less are =
       let t = begun_txn s session decl objects snapshot in

@@ -21,11 +21,11 @@ use Rattle.ql_machine.specs.declared.reply.Why.TheVariants.{Undeclared, Unused}
 use Rattle.ql_machine.specs.State.{Machine, committed, open_of}
 use Rattle.ql_machine.specs.Rules.{Call, Rules}
 use Rattle.ql_machine.specs.Sets.{AreThose, IsLeast}
-use Rattle.ql_machine.specs.Views.{Applied, InView}
+use Rattle.ql_machine.specs.Views.{HasApplied, InView}
 use Rattle.ql_machine.specs.Blocking.{IsMissing, MissingInTxn, NoneMissing, NoneMissingInTxn}
 use Rattle.ql_machine.specs.Changes.{IsGone, IsInFlight, after_join, message_of, repeated, spent}
 use Rattle.ql_machine.specs.Calls.{HasNoneOpen, HasOpen, IsAllowed, IsCall, IsConnected, IsFree, IsHeldBy, IsOutside, MayAnswer, MayCall, after_own, after_plain, after_strong, blocked, held, makes, makes_own, makes_strong, unavailable, undeclared, unused}
-use Rattle.ql_machine.specs.Deliveries.{IsAwaited, IsDelivery, IsGained, IsKnown, IsNew, IsInOneGroup, after_copy, after_receipt, again, applies, cut, gone, waits}
+use Rattle.ql_machine.specs.Deliveries.{IsAwaited, IsDelivery, IsGained, IsKnown, IsNewDelivery, IsInOneGroup, after_copy, after_receipt, again, applies, cut, gone, waits}
 use Rattle.ql_machine.specs.Steps.{IsStep, IsUnderStrong, absent, after_begin, after_commit, already_open, begins, calls, commits, delivers, heals, joins_bare, joins_copy, loses, none_open, none_to_lose, none_to_repeat, repeats, resends, splits}
 
 -- ---- sets and least ids
@@ -171,8 +171,8 @@ module _ (s : Machine) (m : ℕ) where
   data IsHandled (message : Message) : Machine → Reply → Type 0 where
     is_cut : (IsInOneGroup s message → ⊥) → IsHandled message s reply.Cut
     is_again : IsInOneGroup s message → IsKnown s message → IsHandled message (after_copy s m message) reply.Again
-    is_waiting : (a : EffId) → IsNew s m message → IsLeast (IsAwaited (after_receipt s m message) message) a.0 → IsHandled message (after_receipt s m message) (reply.Waits a)
-    is_applied : (ids : List ℕ) → IsNew s m message → ((a : ℕ) → Has message.carried a → Applied (after_receipt s m message) message.receiver.0 a)
+    is_waiting : (a : EffId) → IsNewDelivery s m message → IsLeast (IsAwaited (after_receipt s m message) message) a.0 → IsHandled message (after_receipt s m message) (reply.Waits a)
+    is_applied : (ids : List ℕ) → IsNewDelivery s m message → ((a : ℕ) → Has message.carried a → HasApplied (after_receipt s m message) message.receiver.0 a)
         → AreThose (IsGained s (after_receipt s m message) message.receiver.0) ids → IsHandled message (after_receipt s m message) (reply.Applies ids)
 
   data IsArrived : Machine → Reply → Type 0 where
@@ -186,7 +186,7 @@ module _ (s : Machine) (m : ℕ) where
   arrived _ _ (waits message a new least) = is_handled message _ _ new.in_flight (is_waiting a new least)
   arrived _ _ (applies message ids new all are) = is_handled message _ _ new.in_flight (is_applied ids new all are)
 
-  awaits-none : (message : Message) (b : ℕ) → IsAwaited (after_receipt s m message) message b → ((a : ℕ) → Has message.carried a → Applied (after_receipt s m message) message.receiver.0 a) → ⊥
+  awaits-none : (message : Message) (b : ℕ) → IsAwaited (after_receipt s m message) message b → ((a : ℕ) → Has message.carried a → HasApplied (after_receipt s m message) message.receiver.0 a) → ⊥
   awaits-none message b awaited all = both_ways _ awaited.0 (all awaited.1 awaited.2 b awaited.3)
 
   handled-once : (message : Message) (after : Machine) (r : Reply) → IsHandled message after r → (other : Machine) (q : Reply) → IsHandled message other q → Alike after other r q
@@ -235,7 +235,7 @@ module _ (rules : Rules) (s : Machine) where
   step-once _ _ _ (already_open session replica decl objects t is) _ _ (begins _ _ _ _ snapshot none less are) = open-once session t none is
   step-once _ _ _ (begins session replica decl objects snapshot none less are) _ _ (already_open _ _ _ _ t is) = open-once session t none is
   step-once _ _ _ (begins session replica decl objects snapshot none less are) _ _ (begins _ _ _ _ others none_too less_too are_too) =
-      (ap (after_begin s session decl objects) (same-those (Applied s replica.0) snapshot others are are_too), refl)
+      (ap (after_begin s session decl objects) (same-those (HasApplied s replica.0) snapshot others are are_too), refl)
   step-once _ _ _ (none_open session replica none) _ _ (none_open _ _ none_too) = (refl, refl)
   step-once _ _ _ (none_open session replica none) _ _ (commits _ _ t own is are) = open-once session t none is
   step-once _ _ _ (commits session replica t own is are) _ _ (none_open _ _ none) = open-once session t none is

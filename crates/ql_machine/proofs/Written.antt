@@ -15,7 +15,7 @@ use Rattle.ql_machine.specs.declared.reply.Reply.TheVariants as reply
 use Rattle.ql_machine.specs.declared.reply.Reply.TheVariants.{Applies, Waits}
 use Rattle.ql_machine.specs.State.{Machine, NeedsNow, empty, open_of, received_at}
 use Rattle.ql_machine.specs.Sets.{AreThose}
-use Rattle.ql_machine.specs.Views.{Applied, InView}
+use Rattle.ql_machine.specs.Views.{HasApplied, InView}
 use Rattle.ql_machine.specs.Changes.{message_of}
 use Rattle.ql_machine.specs.Calls.{MayAnswer, MayCall, makes}
 use Rattle.ql_machine.specs.Deliveries.{IsAwaited, IsGained, applies, waits}
@@ -164,12 +164,12 @@ each-of P first second a has = elim (one-of a has) [
 both-done : (a : ℕ) → Has (1 ∷ 2 ∷ []) a → IsDone example.both_applied.effects [] a
 both-done = each-of (IsDone example.both_applied.effects []) refl refl
 
-now-applied : (a : ℕ) → Has (1 ∷ 2 ∷ []) a → Applied example.both_applied 1 a
+now-applied : (a : ℕ) → Has (1 ∷ 2 ∷ []) a → HasApplied example.both_applied 1 a
 now-applied a has =
     closed-from (NeedsNow example.both_applied.effects []) (Has (received_at example.both_applied.received 1)) (IsDone example.both_applied.effects []) both-received fourth-keeps.history.done a (both-done a has)
 
-not-before : (a : ℕ) → Has (1 ∷ 2 ∷ []) a → Applied example.one_waits 1 a → ⊥
-not-before = each-of (λ a. Applied example.one_waits 1 a → ⊥) (λ closed. false≢true (closed 1 (here 1))) (λ closed. false≢true (closed 1 (through 2 1 1 (inl refl) (here 1))))
+not-before : (a : ℕ) → Has (1 ∷ 2 ∷ []) a → HasApplied example.one_waits 1 a → ⊥
+not-before = each-of (λ a. HasApplied example.one_waits 1 a → ⊥) (λ closed. false≢true (closed 1 (here 1))) (λ closed. false≢true (closed 1 (through 2 1 1 (inl refl) (here 1))))
 
 first-of-both : (a : ℕ) → Has (1 ∷ []) a → Has (1 ∷ 2 ∷ []) a
 first-of-both a has = elim (or_cases (nat_eq 1 a) false has) [

@@ -94,8 +94,8 @@ abbrev pub member_of : Option OpenTxn → Member
 member_of None = Alone
 member_of (Some t) = Inside t.run t.decl
 
-abbrev pub draft_of : Call → Option OpenTxn → Answered → List ℕ → Draft
-draft_of c now answered seen = record {
+abbrev pub draft_of_call : Call → Option OpenTxn → Answered → List ℕ → Draft
+draft_of_call c now answered seen = record {
   object = c.object;
   op = c.op;
   args = c.args;
@@ -109,4 +109,4 @@ draft_of c now answered seen = record {
 -- the effect of a call that sees these, answered from them
 abbrev pub effect_made : Rules → Machine → Call → List ℕ → Effect
 effect_made rules s c seen =
-    effect_of s.effects (draft_of c (open_of s.open_txns c.session) (rules.answer c.op c.args (seen_in_order s.effects seen)) seen)
+    effect_of s.effects (draft_of_call c (open_of s.open_txns c.session) (rules.answer c.op c.args (seen_in_order s.effects seen)) seen)

@@ -8,7 +8,7 @@ use Rattle.ql_machine.specs.declared.reply.Reply.{Reply}
 use Rattle.ql_machine.specs.declared.reply.Reply.TheVariants.{Again, Applies, Cut, Gone, Waits}
 use Rattle.ql_machine.specs.Sets.{has_all, AreThose, IsLeast}
 use Rattle.ql_machine.specs.State.{Machine, NeedsNow, group_at, received_at}
-use Rattle.ql_machine.specs.Views.{Applied}
+use Rattle.ql_machine.specs.Views.{HasApplied}
 use Rattle.ql_machine.specs.Changes.{IsGone, IsInFlight, received_by, spent}
 
 -- sender and receiver are in one group
@@ -32,7 +32,7 @@ after_receipt s m message =
     }
 
 -- a copy is in flight and passes, and the receiver hasn't received all that the message carries
-pub record IsNew (s : Machine) (m : ℕ) (message : Message) : Type 0 where
+pub record IsNewDelivery (s : Machine) (m : ℕ) (message : Message) : Type 0 where
   pub in_flight : IsInFlight s.messages m message
   pub passes : IsInOneGroup s message
   pub unknown : has_all (received_at s.received message.receiver.0) message.carried ≡ false
@@ -45,7 +45,7 @@ IsAwaited s message b =
 
 -- a receipt made a replica apply an effect
 abbrev pub IsGained : Machine → Machine → ℕ → ℕ → Type 0
-IsGained before after r a = Applied after r a × (Applied before r a → ⊥)
+IsGained before after r a = HasApplied after r a × (HasApplied before r a → ⊥)
 
 pub data IsDelivery (s : Machine) (m : ℕ) : Machine → Reply → Type 0 where
   -- no copy is in flight
@@ -55,8 +55,8 @@ pub data IsDelivery (s : Machine) (m : ℕ) : Machine → Reply → Type 0 where
   -- the receiver has received it already: the copy is spent
   again : (message : Message) → IsInFlight s.messages m message → IsInOneGroup s message → IsKnown s message → IsDelivery s m (after_copy s m message) Again
   -- received, and something that it needs isn't: the least of that is reported
-  waits : (message : Message) (a : EffId) → IsNew s m message → IsLeast (IsAwaited (after_receipt s m message) message) a.0
+  waits : (message : Message) (a : EffId) → IsNewDelivery s m message → IsLeast (IsAwaited (after_receipt s m message) message) a.0
       → IsDelivery s m (after_receipt s m message) (Waits a)
   -- received with all that it needs: the effects that the replica applies now and didn't before are reported
-  applies : (message : Message) (ids : List ℕ) → IsNew s m message → ((a : ℕ) → Has message.carried a → Applied (after_receipt s m message) message.receiver.0 a)
+  applies : (message : Message) (ids : List ℕ) → IsNewDelivery s m message → ((a : ℕ) → Has message.carried a → HasApplied (after_receipt s m message) message.receiver.0 a)
       → AreThose (IsGained s (after_receipt s m message) message.receiver.0) ids → IsDelivery s m (after_receipt s m message) (Applies ids)

@@ -27,7 +27,7 @@ use Rattle.ql_machine.specs.declared.reply.Why.TheVariants.{Absent, AlreadyOpen,
 use Rattle.ql_machine.specs.Sets.{AreThose}
 use Rattle.ql_machine.specs.State.{Machine, NeedsNow, received_at, replicas}
 use Rattle.ql_machine.specs.Rules.{Rules}
-use Rattle.ql_machine.specs.Views.{Applied}
+use Rattle.ql_machine.specs.Views.{HasApplied}
 use Rattle.ql_machine.specs.Changes.{IsGone, IsInFlight, after_join, message_of, next_message, next_replica, package_to_others, received_by, repeated, spent, without}
 use Rattle.ql_machine.specs.Calls.{HasNoneOpen, HasOpen, IsCall}
 use Rattle.ql_machine.specs.Deliveries.{IsDelivery}
@@ -76,7 +76,7 @@ pub data IsStep (rules : Rules) (s : Machine) : Event → Machine → Reply → 
       → IsStep rules s (Begin session replica decl objects) s (Refused AlreadyOpen)
   -- else a transaction begins, with what the replica has applied as its snapshot
   begins : (session : SessId) (replica : ReplicaId) (decl : DeclId) (objects snapshot : List ℕ) → HasNoneOpen s session → replica.0 < replicas s
-      → AreThose (Applied s replica.0) snapshot → IsStep rules s (Begin session replica decl objects) (after_begin s session decl objects snapshot) Begun
+      → AreThose (HasApplied s replica.0) snapshot → IsStep rules s (Begin session replica decl objects) (after_begin s session decl objects snapshot) Begun
   -- commit: the session has none open
   none_open : (session : SessId) (replica : ReplicaId) → HasNoneOpen s session → IsStep rules s (Commit session replica) s (Refused NotOpen)
   -- else its effects are committed

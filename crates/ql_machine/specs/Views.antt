@@ -15,8 +15,8 @@ use Rattle.ql_machine.specs.State.{Machine, NeedsNow, received_at, open_of}
 use Rattle.ql_machine.specs.Rules.{Rules, Call}
 
 -- a replica has applied an effect: it has received it and all that it needs, directly or through others
-abbrev pub Applied : Machine → ℕ → ℕ → Type 0
-Applied s r a = Closed (NeedsNow s.effects s.open_txns) (Has (received_at s.received r)) a
+abbrev pub HasApplied : Machine → ℕ → ℕ → Type 0
+HasApplied s r a = Closed (NeedsNow s.effects s.open_txns) (Has (received_at s.received r)) a
 
 -- the same of some ids together with the transaction's own effects
 abbrev pub AppliedWithOwn : Machine → OpenTxn → List ℕ → ℕ → Type 0
@@ -24,9 +24,9 @@ AppliedWithOwn s t ids a = Closed (NeedsNow s.effects s.open_txns) (λ b. Has id
 
 -- outside a transaction: what the replica has applied, and at strong every effect
 abbrev pub PlainScope : Machine → ℕ → Level → ℕ → Type 0
-PlainScope s r Eventual a = Applied s r a
-PlainScope s r Causal a = Applied s r a
-PlainScope s r Wide a = Applied s r a
+PlainScope s r Eventual a = HasApplied s r a
+PlainScope s r Causal a = HasApplied s r a
+PlainScope s r Wide a = HasApplied s r a
 PlainScope s r Strong a = Unit {0}
 
 -- In a transaction: what the replica has applied, together with the transaction's own effects. At repeatable read: the

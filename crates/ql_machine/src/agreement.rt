@@ -9,7 +9,7 @@ ghost use Rattle.ql_machine.specs.declared.reply.Reply.TheVariants.{Blocked};
 ghost use Rattle.ql_machine.specs.State.{Machine, committed, message_at, received_at};
 ghost use Rattle.ql_machine.specs.Rules.{Call, Rules};
 ghost use Rattle.ql_machine.specs.Sets.{AreThose};
-ghost use Rattle.ql_machine.specs.Views.{Applied, InView};
+ghost use Rattle.ql_machine.specs.Views.{HasApplied, InView};
 ghost use Rattle.ql_machine.specs.Calls.{IsCall};
 ghost use Rattle.ql_machine.specs.Runs.{IsRun};
 ghost use Rattle.ql_machine.specs.Promised.{AllArrived, IsPlain, at_replica};
@@ -33,7 +33,7 @@ pub fn replicas_agree()
         (received_at last.received r) }
     ensures applied { (rules : Rules) (n : ℕ) (events : List Event) (replies : List Reply)
         (last : Machine) → IsRun rules n events replies last
-        → AllArrived last → (r : ℕ) → r < n → (a : ℕ) → Applied last r a
+        → AllArrived last → (r : ℕ) → r < n → (a : ℕ) → HasApplied last r a
         ↔ (committed last.effects last.open_txns a ≡ true) }
     ensures not_blocked { (rules : Rules) (n : ℕ) (events : List Event) (replies : List Reply)
         (last : Machine) → IsRun rules n events replies last

@@ -13,7 +13,7 @@ ghost use Rattle.ql_machine.specs.declared.reply.Reply.{Reply};
 ghost use Rattle.ql_machine.specs.State.{Machine, replicas};
 ghost use Rattle.ql_machine.specs.Rules.{Rules};
 ghost use Rattle.ql_machine.specs.Runs.{IsRun};
-ghost use Rattle.ql_machine.specs.Views.{Applied};
+ghost use Rattle.ql_machine.specs.Views.{HasApplied};
 ghost use Rattle.ql_machine.specs.Promised.{IsUnderName};
 
 /// The law of levels of operations: after every list of events the effects are an execution
@@ -53,7 +53,7 @@ pub fn strong_effects_are_everywhere()
     ensures { (rules : Rules) (n : ℕ) (events : List Event) (replies : List Reply) (last : Machine)
         → IsRun rules n events replies last
         → (a : ℕ) (e : Effect) → effect_at last.effects a ≡ Some e → rules.level e.op ≡ Strong
-        → (r : ℕ) → r < replicas last → Applied last r a }
+        → (r : ℕ) → r < replicas last → HasApplied last r a }
 {}
 
 /// The law of transactions: each begun transaction meets the formula of its declared name's level, even one

@@ -12,7 +12,7 @@ ghost use Rattle.ql_machine.specs.State.{Machine, NeedsNow, committed, message_a
 ghost use Rattle.ql_machine.specs.Rules.{Promises, Rules};
 ghost use Rattle.ql_machine.specs.Sets.{AreThose};
 ghost use Rattle.ql_machine.specs.Changes.{received_by_all};
-ghost use Rattle.ql_machine.specs.Views.{Applied, AppliedWithOwn};
+ghost use Rattle.ql_machine.specs.Views.{HasApplied, AppliedWithOwn};
 ghost use Rattle.ql_machine.specs.Runs.{IsRun};
 ghost use Rattle.ql_machine.specs.Kept.{Keeps};
 
@@ -41,7 +41,7 @@ pub fn replicas_judge_alone()
     ensures reached { (promises : Promises) (n : ℕ) (s : Machine) → Keeps promises n s → (a b : ℕ)
         → committed s.effects s.open_txns a ≡ true
         → Reaches (NeedsNow s.effects s.open_txns) a b ↔ Reaches (Needs s.effects) a b }
-    ensures applied { (promises : Promises) (n : ℕ) (s : Machine) → Keeps promises n s → (r a : ℕ) → Applied s r a ↔ Closed (Needs s.effects) (Has (received_at s.received r)) a }
+    ensures applied { (promises : Promises) (n : ℕ) (s : Machine) → Keeps promises n s → (r a : ℕ) → HasApplied s r a ↔ Closed (Needs s.effects) (Has (received_at s.received r)) a }
     ensures others { (promises : Promises) (n : ℕ) (s : Machine) → Keeps promises n s
         → (session : SessId) (t : OpenTxn) → open_of s.open_txns session ≡ Some t
         → (ids : List ℕ) (a : ℕ) → committed s.effects s.open_txns a ≡ true

@@ -31,13 +31,13 @@ IsRepeated before after m =
     (message : Message) × IsInFlight before.messages m message × (after ≡ record before { messages = repeated before.messages m message })
 
 -- a replica is outside another's group
-abbrev pub IsOutside : List ℕ → ReplicaId → ℕ → Type 0
-IsOutside groups r q = (q < length groups) × (group_at groups q ≢ group_at groups r.0)
+abbrev pub IsOutsideGroup : List ℕ → ReplicaId → ℕ → Type 0
+IsOutsideGroup groups r q = (q < length groups) × (group_at groups q ≢ group_at groups r.0)
 
 -- the least replica outside another's group, or that every replica is in it
 abbrev pub IsLeastOutside : List ℕ → ReplicaId → Option ReplicaId → Type 0
 IsLeastOutside groups r None = (q : ℕ) → q < length groups → group_at groups q ≡ group_at groups r.0
-IsLeastOutside groups r (Some least) = IsLeast (IsOutside groups r) least.0
+IsLeastOutside groups r (Some least) = IsLeast (IsOutsideGroup groups r) least.0
 
 -- the message with this number, if a copy of it is in flight
 abbrev pub IsFound : List Message → ℕ → Option Message → Type 0

@@ -13,7 +13,7 @@ pub record IsLineStart (text : List ℕ) (at start : ℕ) : Type 0 where
   pub one_line : (k : ℕ) → start ≤ k → k < at → get_or text k 0 ≢ 10
 
 -- what a position says of an offset: its line's number, from 1, and where that line begins
-pub record IsPlace (text : List ℕ) (at : ℕ) (place : Place) : Type 0 where
+pub record IsPosition (text : List ℕ) (at : ℕ) (place : Place) : Type 0 where
   pub is_at : place.at ≡ at
   pub within : at ≤ length text
   pub line : place.line ≡ count_by is_line_feed (take at text) + 1

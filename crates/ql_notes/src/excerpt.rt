@@ -2,7 +2,7 @@
 ghost use Rattle.std.specs.Prelude.{◌≡◌, ◌++◌, ◌≤◌, ◌<◌, ◌==◌, [], if◌then◌else◌, length, map, min, take, OnOk};
 ghost use Rattle.std.specs.List.{concat};
 ghost use Rattle.ql_notes.specs.Excerpts.{blanks_below, excerpt, hex_digit, is_shown, marked_line, marks_below, position, shown_byte, shown_from, without_return};
-ghost use Rattle.ql_notes.specs.Places.{IsPlace};
+ghost use Rattle.ql_notes.specs.Places.{IsPosition};
 ghost use Rattle.ql_notes.specs.declared.place.Place.{Place};
 
 use crate::place::{Place, line_of, place_of};
@@ -31,7 +31,7 @@ pub struct Spot {
 
 /// Appends `NAME:LINE:COLUMN` of an offset, both counted from 1, the column in bytes.
 pub fn push_position(note: &mut Vec<u8>, file: File, at: usize) -> Result<(), NoMemory>
-    ensures { OnOk result ((place : Place) × IsPlace file.entry.text.now (min at (length file.entry.text.now)) place
+    ensures { OnOk result ((place : Place) × IsPosition file.entry.text.now (min at (length file.entry.text.now)) place
         × (note.new.items ≡ note.old.items ++ position file.entry.name.now place)) }
 {
     let place = place_of(file.text, at);
@@ -180,7 +180,7 @@ fn push_marks(note: &mut Vec<u8>, bytes: &[u8]) -> Result<(), NoMemory>
 /// Appends the line of an offset, and marks under some bytes from it on. The line after the last one is empty.
 pub fn push_line(note: &mut Vec<u8>, file: File, spot: Spot) -> Result<(), NoMemory>
     ensures { OnOk result ((place : Place)
-        × IsPlace file.entry.text.now (min spot.from (length file.entry.text.now)) place
+        × IsPosition file.entry.text.now (min spot.from (length file.entry.text.now)) place
         × (note.new.items ≡ note.old.items ++ (if place.start == length file.entry.text.now then [] else excerpt file.entry.text.now place spot.bytes))) }
 {
     let place = place_of(file.text, spot.from);

@@ -1,6 +1,6 @@
 ghost use Rattle.std.specs.Prelude.{◌≡◌, ◌⊎◌, ◌≤◌, length, min, take};
 ghost use Rattle.std.specs.List.{position_or_len};
-ghost use Rattle.ql_notes.specs.Places.{IsBlankLine, IsInLine, IsPlace, is_line_feed};
+ghost use Rattle.ql_notes.specs.Places.{IsBlankLine, IsInLine, IsPosition, is_line_feed};
 
 /// A position in a text: its line, from 1, and in bytes the offset of that line's first byte and its own.
 #[derive(Clone, Copy)]
@@ -12,7 +12,7 @@ pub struct Place {
 
 /// The position of an offset, or of the text's end.
 pub fn place_of(text: &[u8], offset: usize) -> Place
-    ensures { IsPlace text.now (min offset (length text.now)) result }
+    ensures { IsPosition text.now (min offset (length text.now)) result }
 {
     let at = offset.min(text.len());
     let (mut line, mut start) = (1, 0);
@@ -27,7 +27,7 @@ pub fn place_of(text: &[u8], offset: usize) -> Place
 
 /// The position of the first byte of a line that isn't blank, or of the text's end where the line has none.
 pub fn place_of_line(text: &[u8], number: u64) -> Place
-    ensures is { IsPlace text.now result.at result }
+    ensures is { IsPosition text.now result.at result }
     ensures on_line { IsInLine text.now number result
         ⊎ ((result.at ≡ length text.now) × IsBlankLine text.now number) }
 {

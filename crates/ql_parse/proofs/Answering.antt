@@ -11,8 +11,8 @@ use Rattle.ql_grammar.specs.Machine.{Reading, read, run, step, finish, place_ahe
 use Rattle.ql_grammar.proofs.Laws.{IsWhole, text_found, fault_found}
 use Rattle.ql_grammar.specs.declared.terminal.Terminal.{Terminal}
 use Rattle.ql_parse.specs.Readers.{lexemes_of, terminal_ahead}
-use Rattle.ql_parse.specs.Readings.{Gave, IsRefused, fault_of, EndsHere, EndsNot}
-use Rattle.ql_parse.specs.Parsing.{IsAnswer, IsFaultAs, IsTextAs, of_lex, of_refusal}
+use Rattle.ql_parse.specs.Readings.{Gave, IsRefused, refusal_fault, EndsHere, EndsNot}
+use Rattle.ql_parse.specs.Parsing.{IsParsed, IsFaultAs, IsTextAs, of_lex, of_refusal}
 use Rattle.ql_parse.specs.declared.fault.Refusal.{Refusal}
 use Rattle.ql_parse.specs.declared.fault.Refusal.TheVariants as refused
 
@@ -54,19 +54,19 @@ module _ {A T : Type 0} {p : Part} {value : A → Value} {Reads : List Marked �
     first = fault_found w (lexemes_of bytes ts) (length bytes) f (ap (λ (a : Reading). read a (APart p ∷ []) []) (sym is) ∙ says);
   }
 
-  answer_of : (e : Refusal) → ((f : limits.Fault) → fault_of e ≡ Some f → read r (APart p ∷ []) [] ≡ Err f) → IsAnswer Reads tree_of bytes (Err (of_refusal e))
+  answer_of : (e : Refusal) → ((f : limits.Fault) → refusal_fault e ≡ Some f → read r (APart p ∷ []) [] ≡ Err f) → IsParsed Reads tree_of bytes (Err (of_refusal e))
   answer_of (refused.Unexpected at) says = fault_read (limits.Unexpected at) (says (limits.Unexpected at) refl)
   answer_of (refused.Deep at) says = fault_read (limits.Deep at) (says (limits.Deep at) refl)
   answer_of (refused.Wide at) says = fault_read (limits.Wide at) (says (limits.Wide at) refl)
   answer_of refused.NoMemory says = tt
 
-  pub text_refused : (e : Refusal) → IsRefused (APart p) r e → IsAnswer Reads tree_of bytes (Err (of_refusal e))
+  pub text_refused : (e : Refusal) → IsRefused (APart p) r e → IsParsed Reads tree_of bytes (Err (of_refusal e))
   text_refused e refused = answer_of e (λ f is. refused f is [] [])
 
-  pub text_goes_on : (after : Reading) (v : Value) (e : Refusal) → Gave (APart p) v r after → EndsNot after e → IsAnswer Reads tree_of bytes (Err (of_refusal e))
+  pub text_goes_on : (after : Reading) (v : Value) (e : Refusal) → Gave (APart p) v r after → EndsNot after e → IsParsed Reads tree_of bytes (Err (of_refusal e))
   text_goes_on after v e gave goes = answer_of e (λ f is. gave [] [] ∙ goes f is (v ∷ []))
 
-pub lex_refused : {A T : Type 0} (Reads : List Marked → List Marked → A → Type 0) (tree_of : T → A) (bytes : List ℕ) (f : LexFault) → IsFirstFault bytes f → IsAnswer Reads tree_of bytes (Err (of_lex f))
+pub lex_refused : {A T : Type 0} (Reads : List Marked → List Marked → A → Type 0) (tree_of : T → A) (bytes : List ℕ) (f : LexFault) → IsFirstFault bytes f → IsParsed Reads tree_of bytes (Err (of_lex f))
 lex_refused Reads tree_of bytes (BadChar at) first = first
 lex_refused Reads tree_of bytes (LongWord at) first = first
 lex_refused Reads tree_of bytes (BadNumber at) first = first

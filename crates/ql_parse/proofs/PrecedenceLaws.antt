@@ -12,7 +12,7 @@ use Rattle.ql_grammar.proofs.Rules.{read-as, then-on, then-past}
 use Rattle.ql_grammar.specs.Limits.{Fault}
 use Rattle.ql_parse.specs.declared.fault.Refusal.{Refusal}
 use Rattle.ql_parse.specs.declared.fault.Refusal.TheVariants.{NoMemory}
-use Rattle.ql_parse.specs.Readings.{fault_of}
+use Rattle.ql_parse.specs.Readings.{refusal_fault}
 use Rattle.ql_parse.specs.Precedences.{tighter, chains, sees_any, part_at, operand_at, more_at, up_to, following, after_two}
 
 -- an operand is a part with tighter operators, or without any
@@ -130,5 +130,5 @@ on_ok (Ok x) p = p
 on_ok (Err e) p = tt
 
 -- running out of memory says nothing about the text
-pub no_fault : {A : Type 0} (e : Refusal) (f : Fault) → e ≡ NoMemory → fault_of e ≡ Some f → A
-no_fault e f full is = absurd (let none : fault_of NoMemory ≡ Some f = rw full at is in cc)
+pub no_fault : {A : Type 0} (e : Refusal) (f : Fault) → e ≡ NoMemory → refusal_fault e ≡ Some f → A
+no_fault e f full is = absurd (let none : refusal_fault NoMemory ≡ Some f = rw full at is in cc)

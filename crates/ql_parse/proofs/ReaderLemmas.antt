@@ -22,7 +22,7 @@ use Rattle.ql_grammar.specs.Machine.{Reading, read, is_ahead, operator_ahead, pl
 use Rattle.ql_grammar.proofs.Taking.{behind, text_ahead, word_taken, word_missing, placed_taken, placed_missing, name_taken, name_missing, kept_taken, kept_missing, operator_counted, operator_missing, some_ahead, some_operator_ahead}
 use Rattle.ql_parse.specs.declared.fault.Refusal.{Refusal}
 use Rattle.ql_parse.specs.declared.fault.Refusal.TheVariants.{Unexpected}
-use Rattle.ql_parse.specs.Readers.{terminal_ahead, AreSpans, lexemes_of}
+use Rattle.ql_parse.specs.Readers.{terminal_ahead, AreSpansOf, lexemes_of}
 use Rattle.ql_parse.specs.Readings.{Took, Gave, Faults, IsRefused, IsPast, Passed}
 
 pub sees_some : (ts : List Lexeme) (a k : Terminal) → Some a ≡ terminal_ahead ts → is_same a k ≡ is_ahead k ts
@@ -125,7 +125,7 @@ pub record NameFits (bytes : List ℕ) (rest : List Token) (t : Token) : Type 0 
   pub least : 1 ≤ length (take (t.to - t.from) (drop t.from bytes))
   pub most : length (take (t.to - t.from) (drop t.from bytes)) ≤ 32
 
-name_fits : (bytes : List ℕ) (rest : List Token) (d : Token) → AreSpans bytes rest → is_ahead NameToken (lexemes_of bytes rest) ≡ true → NameFits bytes rest (slice_index_or rest 0 d)
+name_fits : (bytes : List ℕ) (rest : List Token) (d : Token) → AreSpansOf bytes rest → is_ahead NameToken (lexemes_of bytes rest) ≡ true → NameFits bytes rest (slice_index_or rest 0 d)
 unfolding is_ahead
 name_fits bytes [] d spans sees = cc
 name_fits bytes (t ∷ ts) d spans sees =
@@ -140,7 +140,7 @@ name_fits bytes (t ∷ ts) d spans sees =
       most = simp (length-take, length-drop) (omega arith);
     }
 
-pub name_ahead_fits : (bytes : List ℕ) (rest : List Token) (d : Token) (r : Reading) → r.tokens ≡ lexemes_of bytes rest → AreSpans bytes rest → is_ahead NameToken r.tokens ≡ true → NameFits bytes rest (slice_index_or rest 0 d)
+pub name_ahead_fits : (bytes : List ℕ) (rest : List Token) (d : Token) (r : Reading) → r.tokens ≡ lexemes_of bytes rest → AreSpansOf bytes rest → is_ahead NameToken r.tokens ≡ true → NameFits bytes rest (slice_index_or rest 0 d)
 name_ahead_fits bytes rest d r are spans sees = name_fits bytes rest d spans (rw are at sees)
 
 -- numbers and texts
@@ -206,7 +206,7 @@ pub record NumberFits (bytes : List ℕ) (rest : List Token) (t : Token) (x : Li
   pub value : ℕ
   pub spells : Spells most_number value (take (t.to - t.from) (drop t.from bytes))
 
-number_fits : (bytes : List ℕ) (rest : List Token) (d : Token) → AreSpans bytes rest → is_ahead IntToken (lexemes_of bytes rest) ≡ true → NumberFits bytes rest (slice_index_or rest 0 d) (text_ahead (lexemes_of bytes rest))
+number_fits : (bytes : List ℕ) (rest : List Token) (d : Token) → AreSpansOf bytes rest → is_ahead IntToken (lexemes_of bytes rest) ≡ true → NumberFits bytes rest (slice_index_or rest 0 d) (text_ahead (lexemes_of bytes rest))
 unfolding is_ahead
 number_fits bytes [] d spans sees = cc
 number_fits bytes (t ∷ ts) d spans sees =
@@ -214,7 +214,7 @@ number_fits bytes (t ∷ ts) d spans sees =
     let n = spans.0.numeral is in
     record { some = omega arith; text = refl; value = n.0; spells = n.1 }
 
-pub number_ahead_fits : (bytes : List ℕ) (rest : List Token) (d : Token) (r : Reading) → r.tokens ≡ lexemes_of bytes rest → AreSpans bytes rest → is_ahead IntToken r.tokens ≡ true → NumberFits bytes rest (slice_index_or rest 0 d) (text_ahead r.tokens)
+pub number_ahead_fits : (bytes : List ℕ) (rest : List Token) (d : Token) (r : Reading) → r.tokens ≡ lexemes_of bytes rest → AreSpansOf bytes rest → is_ahead IntToken r.tokens ≡ true → NumberFits bytes rest (slice_index_or rest 0 d) (text_ahead r.tokens)
 number_ahead_fits bytes rest d r are spans sees = rw are (number_fits bytes rest d spans (rw are at sees))
 
 pub record TextFits (bytes : List ℕ) (rest : List Token) (t : Token) (x : List ℕ) : Type 0 where
@@ -222,7 +222,7 @@ pub record TextFits (bytes : List ℕ) (rest : List Token) (t : Token) (x : List
   pub text : x ≡ take (t.to - t.from) (drop t.from bytes)
   pub long : 2 ≤ length (take (t.to - t.from) (drop t.from bytes))
 
-text_fits : (bytes : List ℕ) (rest : List Token) (d : Token) → AreSpans bytes rest → is_ahead TextToken (lexemes_of bytes rest) ≡ true → TextFits bytes rest (slice_index_or rest 0 d) (text_ahead (lexemes_of bytes rest))
+text_fits : (bytes : List ℕ) (rest : List Token) (d : Token) → AreSpansOf bytes rest → is_ahead TextToken (lexemes_of bytes rest) ≡ true → TextFits bytes rest (slice_index_or rest 0 d) (text_ahead (lexemes_of bytes rest))
 unfolding is_ahead
 text_fits bytes [] d spans sees = cc
 text_fits bytes (t ∷ ts) d spans sees =
@@ -231,7 +231,7 @@ text_fits bytes (t ∷ ts) d spans sees =
     let inside : t.to ≤ length bytes = spans.0.inside in
     record { some = omega arith; text = refl; long = simp (length-take, length-drop) (omega arith) }
 
-pub text_ahead_fits : (bytes : List ℕ) (rest : List Token) (d : Token) (r : Reading) → r.tokens ≡ lexemes_of bytes rest → AreSpans bytes rest → is_ahead TextToken r.tokens ≡ true → TextFits bytes rest (slice_index_or rest 0 d) (text_ahead r.tokens)
+pub text_ahead_fits : (bytes : List ℕ) (rest : List Token) (d : Token) (r : Reading) → r.tokens ≡ lexemes_of bytes rest → AreSpansOf bytes rest → is_ahead TextToken r.tokens ≡ true → TextFits bytes rest (slice_index_or rest 0 d) (text_ahead r.tokens)
 text_ahead_fits bytes rest d r are spans sees = rw are (text_fits bytes rest d spans (rw are at sees))
 
 -- the value of digits is the number that they spell

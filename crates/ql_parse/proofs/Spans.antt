@@ -2,13 +2,13 @@ use Rattle.std.proofs.Common.{◌≡◌, ℕ, ◌+◌, ◌≤◌, ◌<◌, List,
 use Rattle.std.proofs.Math.Seq.{take-append_seam}
 use Rattle.ql_base.specs.Numbers.{Spells}
 use Rattle.ql_lex.specs.Starts.{StartsWith, name, text as quoted_text, number, most_number}
-use Rattle.ql_lex.specs.Tokens.{Lexes, ends, gap, token, no_token, too_long, no_number, preceded, AreSpans as Ascend}
+use Rattle.ql_lex.specs.Tokens.{Lexes, ends, gap, token, no_token, too_long, no_number, preceded, AreSpansOf as Ascend}
 use Rattle.ql_lex.specs.declared.start.Start.TheVariants.{Lexeme}
 use Rattle.ql_lex.specs.declared.token.LexFault.{LexFault}
 use Rattle.ql_lex.specs.declared.token.Token.{Token}
 use Rattle.ql_lex.specs.declared.token.TokenKind.{TokenKind}
 use Rattle.ql_lex.specs.declared.token.TokenKind.TheVariants.{Name, Int, Text}
-use Rattle.ql_parse.specs.Readers.{AreSpans}
+use Rattle.ql_parse.specs.Readers.{AreSpansOf}
 
 -- the bytes of a token are what its kind may be
 record IsKindly (bytes : List ℕ) (t : Token) : Type 0 where
@@ -59,11 +59,11 @@ end_after : (at end : ℕ) (ts : List Token) → Ascend at end ts → at ≤ end
 end_after at end [] spans = spans
 end_after at end (t ∷ ts) spans = let last : t.to ≤ end = end_after t.to end ts spans.2 in let first : at ≤ t.from = spans.0 in let some : t.from < t.to = spans.1 in omega arith
 
-ascending_fit : (bytes : List ℕ) (at : ℕ) (ts : List Token) → Ascend at (length bytes) ts → AreKindly bytes ts → AreSpans bytes ts
+ascending_fit : (bytes : List ℕ) (at : ℕ) (ts : List Token) → Ascend at (length bytes) ts → AreKindly bytes ts → AreSpansOf bytes ts
 ascending_fit bytes at [] spans kindly = tt
 ascending_fit bytes at (t ∷ ts) spans kindly =
     (record { filled = spans.1; inside = end_after t.to (length bytes) ts spans.2; short = kindly.0.short; quoted = kindly.0.quoted; numeral = kindly.0.numeral }, ascending_fit bytes t.to ts spans.2 kindly.1)
 
 -- the tokens of a source lie in it, as a reader needs it
-pub spans_fit : (bytes : List ℕ) (ts : List Token) → Lexes 0 bytes (Ok ts) → Ascend 0 (length bytes) ts → AreSpans bytes ts
+pub spans_fit : (bytes : List ℕ) (ts : List Token) → Lexes 0 bytes (Ok ts) → Ascend 0 (length bytes) ts → AreSpansOf bytes ts
 spans_fit bytes ts lexes spans = ascending_fit bytes 0 ts spans (all_kindly lexes bytes refl ts refl)

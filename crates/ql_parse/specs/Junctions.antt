@@ -9,9 +9,9 @@ use Rattle.ql_parse.specs.declared.junction.Junction.{Junction}
 use Rattle.ql_parse.specs.declared.junction.Junction.TheVariants.{And, Or}
 
 -- how tight it is, for the order of the calls that read it
-abbrev pub rank : Junction → ℕ
-rank And = 0
-rank Or = 2
+abbrev pub tightness : Junction → ℕ
+tightness And = 0
+tightness Or = 2
 
 abbrev pub prop_mark : Junction → Terminal
 prop_mark And = AndMark

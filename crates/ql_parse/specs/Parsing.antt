@@ -31,13 +31,13 @@ pub record IsFaultAs {A : Type 0} (Reads : List Marked → List Marked → A →
   pub first : FirstFault (IsTextOf Reads) (lexemes_of bytes tokens) (length bytes) f
 
 -- what a result says about the bytes; running out of memory says nothing
-abbrev pub IsAnswer : {A T : Type 0} → (List Marked → List Marked → A → Type 0) → (T → A) → List ℕ → Result T ParseFault → Type 0
-IsAnswer Reads tree_of bytes (Ok t) = IsTextAs Reads bytes (tree_of t)
-IsAnswer Reads tree_of bytes (Err (Lex f)) = Lexes 0 bytes (Err f)
-IsAnswer Reads tree_of bytes (Err (Unexpected at)) = IsFaultAs Reads bytes (limits.Unexpected at)
-IsAnswer Reads tree_of bytes (Err (Deep at)) = IsFaultAs Reads bytes (limits.Deep at)
-IsAnswer Reads tree_of bytes (Err (Wide at)) = IsFaultAs Reads bytes (limits.Wide at)
-IsAnswer Reads tree_of bytes (Err NoMemory) = Unit {0}
+abbrev pub IsParsed : {A T : Type 0} → (List Marked → List Marked → A → Type 0) → (T → A) → List ℕ → Result T ParseFault → Type 0
+IsParsed Reads tree_of bytes (Ok t) = IsTextAs Reads bytes (tree_of t)
+IsParsed Reads tree_of bytes (Err (Lex f)) = Lexes 0 bytes (Err f)
+IsParsed Reads tree_of bytes (Err (Unexpected at)) = IsFaultAs Reads bytes (limits.Unexpected at)
+IsParsed Reads tree_of bytes (Err (Deep at)) = IsFaultAs Reads bytes (limits.Deep at)
+IsParsed Reads tree_of bytes (Err (Wide at)) = IsFaultAs Reads bytes (limits.Wide at)
+IsParsed Reads tree_of bytes (Err NoMemory) = Unit {0}
 
 abbrev pub IsContractText : List ℕ → Sentence → Type 0
 IsContractText = IsTextAs ReadsContract
@@ -46,7 +46,7 @@ abbrev pub IsContractFault : List ℕ → limits.Fault → Type 0
 IsContractFault = IsFaultAs ReadsContract
 
 abbrev pub IsContractAnswer : List ℕ → Result Contract ParseFault → Type 0
-IsContractAnswer = IsAnswer ReadsContract sentence_of
+IsContractAnswer = IsParsed ReadsContract sentence_of
 
 abbrev pub IsProgramText : List ℕ → Source → Type 0
 IsProgramText = IsTextAs ReadsProgram
@@ -55,7 +55,7 @@ abbrev pub IsProgramFault : List ℕ → limits.Fault → Type 0
 IsProgramFault = IsFaultAs ReadsProgram
 
 abbrev pub IsProgramAnswer : List ℕ → Result Program ParseFault → Type 0
-IsProgramAnswer = IsAnswer ReadsProgram source_of
+IsProgramAnswer = IsParsed ReadsProgram source_of
 
 -- the same faults, as the public calls name them
 abbrev pub of_lex : LexFault → ParseFault

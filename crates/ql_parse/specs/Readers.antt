@@ -14,9 +14,9 @@ pub record IsSpan (bytes : List ℕ) (t : Token) : Type 0 where
   pub quoted : t.what ≡ Text → t.from + 2 ≤ t.to
   pub numeral : t.what ≡ Int → (n : ℕ) × Spells most_number n (slice_range bytes t.from t.to)
 
-abbrev pub AreSpans : List ℕ → List Token → Type 0
-AreSpans bytes [] = Unit {0}
-AreSpans bytes (t ∷ ts) = IsSpan bytes t × AreSpans bytes ts
+abbrev pub AreSpansOf : List ℕ → List Token → Type 0
+AreSpansOf bytes [] = Unit {0}
+AreSpansOf bytes (t ∷ ts) = IsSpan bytes t × AreSpansOf bytes ts
 
 abbrev pub terminal_ahead : List Lexeme → Option Terminal
 terminal_ahead [] = None
@@ -28,7 +28,7 @@ lexemes_of bytes ts = map (lexeme_of bytes) ts
 -- the fields of a reader fit together
 pub record IsReader (bytes : List ℕ) (rest : List Token) (ahead : Option Terminal) (brackets nodes : ℕ) : Type 0 where
   pub small : length bytes < 2 ^ 32
-  pub spans : AreSpans bytes rest
+  pub spans : AreSpansOf bytes rest
   pub ahead_is : ahead ≡ terminal_ahead (lexemes_of bytes rest)
   pub few_brackets : brackets ≤ 64
   pub few_nodes : nodes ≤ 256

@@ -38,26 +38,26 @@ abbrev pub Faults : Sym → Reading → limits.Fault → Type 0
 Faults s old f = (below : List Sym) (vs : List Value) → read old (s ∷ below) vs ≡ Err f
 
 -- what a refusal says about the text
-abbrev pub fault_of : Refusal → Option limits.Fault
-fault_of (Unexpected at) = Some (limits.Unexpected at)
-fault_of (Deep at) = Some (limits.Deep at)
-fault_of (Wide at) = Some (limits.Wide at)
-fault_of NoMemory = None
+abbrev pub refusal_fault : Refusal → Option limits.Fault
+refusal_fault (Unexpected at) = Some (limits.Unexpected at)
+refusal_fault (Deep at) = Some (limits.Deep at)
+refusal_fault (Wide at) = Some (limits.Wide at)
+refusal_fault NoMemory = None
 
 -- A symbol is refused: unless memory ran out, its first fault is this one.
 abbrev pub IsRefused : Sym → Reading → Refusal → Type 0
-IsRefused s old e = (f : limits.Fault) → fault_of e ≡ Some f → Faults s old f
+IsRefused s old e = (f : limits.Fault) → refusal_fault e ≡ Some f → Faults s old f
 
 -- a token of this role exceeds a limit
 abbrev pub IsPast : limits.Counts → Role → ℕ → Refusal → Type 0
-IsPast c role at e = (f : limits.Fault) → fault_of e ≡ Some f → limits.counted c role at ≡ Err f
+IsPast c role at e = (f : limits.Fault) → refusal_fault e ≡ Some f → limits.counted c role at ≡ Err f
 
 -- What may follow was read once, and turned the topmost value into another.
 abbrev pub Turned : Rest → Value → Value → Reading → Reading → Type 0
 Turned l a b old new = (below : List Sym) (vs : List Value) → read old (Then l ∷ below) (a ∷ vs) ≡ read new (Then l ∷ below) (b ∷ vs)
 
 abbrev pub IsTurnRefused : Rest → Value → Reading → Refusal → Type 0
-IsTurnRefused l a old e = (f : limits.Fault) → fault_of e ≡ Some f → (below : List Sym) (vs : List Value) → read old (Then l ∷ below) (a ∷ vs) ≡ Err f
+IsTurnRefused l a old e = (f : limits.Fault) → refusal_fault e ≡ Some f → (below : List Sym) (vs : List Value) → read old (Then l ∷ below) (a ∷ vs) ≡ Err f
 
 -- the relation whose name comes next, or the last of them
 abbrev pub relation_ahead : List Lexeme → Terminal × RelName
@@ -88,7 +88,7 @@ abbrev pub GaveAll : (List Sym → List Sym) → Value → Reading → Reading �
 GaveAll want v old new = (below : List Sym) (vs : List Value) → read old (want below) vs ≡ read new below (v ∷ vs)
 
 abbrev pub AreRefused : (List Sym → List Sym) → Reading → Refusal → Type 0
-AreRefused want old e = (f : limits.Fault) → fault_of e ≡ Some f → (below : List Sym) (vs : List Value) → read old (want below) vs ≡ Err f
+AreRefused want old e = (f : limits.Fault) → refusal_fault e ≡ Some f → (below : List Sym) (vs : List Value) → read old (want below) vs ≡ Err f
 
 -- The same with two values.
 abbrev pub GaveTwo : (List Sym → List Sym) → Value → Value → Reading → Reading → Type 0
@@ -115,14 +115,14 @@ abbrev pub EndsHere : Reading → Type 0
 EndsHere r = (vs : List Value) → read r [] vs ≡ Ok vs
 
 abbrev pub EndsNot : Reading → Refusal → Type 0
-EndsNot r e = (f : limits.Fault) → fault_of e ≡ Some f → (vs : List Value) → read r [] vs ≡ Err f
+EndsNot r e = (f : limits.Fault) → refusal_fault e ≡ Some f → (vs : List Value) → read r [] vs ≡ Err f
 
 -- The next token began one of these ways, which yielded this value.
 abbrev pub GaveOneOf : (List Sym → List (List Sym)) → Value → Reading → Reading → Type 0
 GaveOneOf ways v old new = (below : List Sym) (vs : List Value) → chosen old (ways below) vs ≡ read new below (v ∷ vs)
 
 abbrev pub IsOneOfRefused : (List Sym → List (List Sym)) → Reading → Refusal → Type 0
-IsOneOfRefused ways old e = (f : limits.Fault) → fault_of e ≡ Some f → (below : List Sym) (vs : List Value) → chosen old (ways below) vs ≡ Err f
+IsOneOfRefused ways old e = (f : limits.Fault) → refusal_fault e ≡ Some f → (below : List Sym) (vs : List Value) → chosen old (ways below) vs ≡ Err f
 
 -- the arguments of a call in their brackets, and an expression after a word
 abbrev pub bracketed_arguments : List Sym → List Sym
@@ -146,7 +146,7 @@ abbrev pub Added : {A : Type 0} → (List Sym → List Sym) → (List A → Valu
 Added {A = A} want value a old new = (below : List Sym) (vs : List Value) (items : List A) → read old (want below) (value items ∷ vs) ≡ read new below (value (items ++ a ∷ []) ∷ vs)
 
 abbrev pub IsAddedRefused : {A : Type 0} → (List Sym → List Sym) → (List A → Value) → Reading → Refusal → Type 0
-IsAddedRefused {A = A} want value old e = (f : limits.Fault) → fault_of e ≡ Some f → (below : List Sym) (vs : List Value) (items : List A) → read old (want below) (value items ∷ vs) ≡ Err f
+IsAddedRefused {A = A} want value old e = (f : limits.Fault) → refusal_fault e ≡ Some f → (below : List Sym) (vs : List Value) (items : List A) → read old (want below) (value items ∷ vs) ≡ Err f
 
 -- a list that is being read: some of what may follow was read, which has turned one value into another
 pub record Collecting (l : Rest) (a b : Value) (old new : Reading) : Type 0 where
@@ -242,7 +242,7 @@ abbrev pub GaveEmission : Emission → Reading → Reading → Type 0
 GaveEmission e old new = (below : List Sym) (vs : List Value) → read old (effect_symbols below) (AnEffect None ∷ vs) ≡ read new below (AnEffect (Some e) ∷ vs)
 
 abbrev pub AreEmissionsRefused : Reading → Refusal → Type 0
-AreEmissionsRefused old e = (f : limits.Fault) → fault_of e ≡ Some f → (below : List Sym) (vs : List Value) → read old (effect_symbols below) (AnEffect None ∷ vs) ≡ Err f
+AreEmissionsRefused old e = (f : limits.Fault) → refusal_fault e ≡ Some f → (below : List Sym) (vs : List Value) → read old (effect_symbols below) (AnEffect None ∷ vs) ≡ Err f
 
 -- the heading of an operation, and what is in its braces
 abbrev pub GaveHeading : ℕ → Name → List Param → Kind → Reading → Reading → Type 0
@@ -259,7 +259,7 @@ abbrev pub GaveMembers : ℕ → Name → Replicated → Reading → Reading →
 GaveMembers n name t old new = (below : List Sym) (vs : List Value) → read old (members_symbols below) (AName name ∷ APlace n ∷ vs) ≡ read new below (AType t ∷ vs)
 
 abbrev pub AreMembersRefused : ℕ → Name → Reading → Refusal → Type 0
-AreMembersRefused n name old e = (f : limits.Fault) → fault_of e ≡ Some f → (below : List Sym) (vs : List Value) → read old (members_symbols below) (AName name ∷ APlace n ∷ vs) ≡ Err f
+AreMembersRefused n name old e = (f : limits.Fault) → refusal_fault e ≡ Some f → (below : List Sym) (vs : List Value) → read old (members_symbols below) (AName name ∷ APlace n ∷ vs) ≡ Err f
 
 abbrev pub terms_symbols : List Sym → List Sym
 terms_symbols below = Word OpenBrace Plain ∷ uses_symbols (contract_symbols (Word CloseBrace Plain ∷ Do to_transaction ∷ below))
@@ -268,4 +268,4 @@ abbrev pub GaveTerms : ℕ → Name → Transaction → Reading → Reading → 
 GaveTerms n name t old new = (below : List Sym) (vs : List Value) → read old (terms_symbols below) (AName name ∷ APlace n ∷ vs) ≡ read new below (ATransaction t ∷ vs)
 
 abbrev pub AreTermsRefused : ℕ → Name → Reading → Refusal → Type 0
-AreTermsRefused n name old e = (f : limits.Fault) → fault_of e ≡ Some f → (below : List Sym) (vs : List Value) → read old (terms_symbols below) (AName name ∷ APlace n ∷ vs) ≡ Err f
+AreTermsRefused n name old e = (f : limits.Fault) → refusal_fault e ≡ Some f → (below : List Sym) (vs : List Value) → read old (terms_symbols below) (AName name ∷ APlace n ∷ vs) ≡ Err f

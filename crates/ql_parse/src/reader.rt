@@ -5,7 +5,7 @@ ghost use Rattle.ql_grammar.specs.Limits.{Wide, counted, with_nodes};
 ghost use Rattle.ql_grammar.specs.Table.{ANameOf, AName, AnOperator, APlace, ASpelling, Kept, Operator, Placed, Word};
 ghost use Rattle.ql_grammar.specs.Machine.{is_ahead, operator_ahead, place_ahead};
 ghost use Rattle.ql_grammar.proofs.Taking.{text_ahead};
-ghost use Rattle.ql_parse.specs.Readers.{AreSpans, lexemes_of, terminal_ahead};
+ghost use Rattle.ql_parse.specs.Readers.{AreSpansOf, lexemes_of, terminal_ahead};
 ghost use Rattle.ql_parse.specs.Precedences.{sees_any};
 ghost use Rattle.ql_parse.specs.Readings.{EndsHere, EndsNot, Gave, IsPast, IsRefused, Missed, Passed, Took};
 
@@ -41,7 +41,7 @@ impl<'a> Model for Reader<'a> {
 
 /// The terminal of the first token.
 fn terminal_ahead(bytes: &[u8], rest: &[Token]) -> Option<Terminal>
-    requires { AreSpans bytes.now rest.now }
+    requires { AreSpansOf bytes.now rest.now }
     ensures { result ≡ terminal_ahead (lexemes_of bytes.now rest.now) }
 {
     let token = rest.first()?;
@@ -54,7 +54,7 @@ impl<'a> Reader<'a> {
     /// A reader of the tokens of `bytes`.
     pub(crate) fn new(bytes: &'a [u8], tokens: &'a [Token]) -> Reader<'a>
         requires small { length bytes.now < 2 ^ 32 }
-        requires spans { AreSpans bytes.now tokens.now }
+        requires spans { AreSpansOf bytes.now tokens.now }
         ensures { result ≡ record {
           tokens = lexemes_of bytes.now tokens.now;
           counts = nothing_yet;

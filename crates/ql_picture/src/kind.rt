@@ -1,5 +1,5 @@
 ghost use Rattle.std.specs.Prelude.{◌≡◌, ◌++◌, OnOk};
-ghost use Rattle.ql_picture.specs.Styles.{kind_text, style_text};
+ghost use Rattle.ql_picture.specs.Styles.{class_text, style_text};
 
 use ql_base::{NoMemory, push_bytes, push_number};
 
@@ -79,7 +79,7 @@ pub(crate) fn push_style(out: &mut Vec<u8>, style: Style) -> Result<(), NoMemory
 }
 
 fn kind_text(kind: Kind) -> &'static [u8]
-    ensures { result.now ≡ kind_text kind }
+    ensures { result.now ≡ class_text kind }
 {
     match kind {
         Kind::Band => b"band",

@@ -6,7 +6,7 @@ use Rattle.ql_base.specs.IdLists.{has_id, with_id}
 use Rattle.ql_base.proofs.IdLemmas.{IsAscending-with_id}
 use Rattle.ql_holder.proofs.IdSets.{has_id-with, same_ids}
 use Rattle.ql_ranges.specs.Ranges.{ids_of, BeginAt, AreApart}
-use Rattle.ql_ranges.specs.Places.{IsOneOf, Adds, IsPlace}
+use Rattle.ql_ranges.specs.Places.{IsOneOf, Adds, IsRangeIndex}
 use Rattle.ql_ranges.specs.declared.ranges.IdRange.{IdRange}
 use Rattle.ql_ranges.proofs.RangeLemmas.{in_ranges-cases, in_ranges-first, in_ranges-later, ascending_ids}
 
@@ -163,14 +163,14 @@ split-joined (range ∷ ranges) zero new inside = one ranges (omega arith)
     one (next ∷ rest) some = refl
 split-joined (range ∷ ranges) (suc at) new inside = ap (λ (rest : List IdRange). range ∷ rest) (split-joined ranges at new (omega arith))
 
-pub inserted-adds : (ranges : List IdRange) (at id : ℕ) (new : IdRange) → AreApart ranges → IsPlace ranges id at → new.from ≡ id → new.to ≡ id
+pub inserted-adds : (ranges : List IdRange) (at id : ℕ) (new : IdRange) → AreApart ranges → IsRangeIndex ranges id at → new.from ≡ id → new.to ≡ id
     → ((d : IdRange) → at < length ranges → id + 2 ≤ (get_or ranges at d).from) → Adds ranges id (insert ranges at new)
 inserted-adds ranges at id new apart place from to far =
     adds-at ranges at id (new ∷ drop at ranges) apart place.bound place.before
     (adds-alone (drop at ranges) id new from to (apart-drop ranges at apart) (begin-drop (id + 2) ranges at far))
 
 -- a range in a wider form
-put-adds : (ranges : List IdRange) (at id : ℕ) (range new : IdRange) → AreApart ranges → IsPlace ranges id at → at < length ranges
+put-adds : (ranges : List IdRange) (at id : ℕ) (range new : IdRange) → AreApart ranges → IsRangeIndex ranges id at → at < length ranges
     → drop at ranges ≡ range ∷ drop (suc at) ranges → Adds (range ∷ drop (suc at) ranges) id (new ∷ drop (suc at) ranges) → Adds ranges id (set ranges at new)
 put-adds ranges at id range new apart place inside is adds =
     subst (λ (more : List IdRange). Adds ranges id more) (sym (split-set ranges at new inside))
@@ -185,7 +185,7 @@ drop-here (range ∷ ranges) (suc at) d inside = drop-here ranges at d (omega ar
 apart-here : (ranges : List IdRange) (at : ℕ) (d : IdRange) → AreApart ranges → at < length ranges → AreApart (get_or ranges at d ∷ drop (suc at) ranges)
 apart-here ranges at d apart inside = subst AreApart (drop-here ranges at d inside) (apart-drop ranges at apart)
 
-pub lowered-adds : (ranges : List IdRange) (at id : ℕ) (d new : IdRange) → AreApart ranges → IsPlace ranges id at → at < length ranges
+pub lowered-adds : (ranges : List IdRange) (at id : ℕ) (d new : IdRange) → AreApart ranges → IsRangeIndex ranges id at → at < length ranges
     → (get_or ranges at d).from ≡ id + 1 → new.from ≡ id → new.to ≡ (get_or ranges at d).to → Adds ranges id (set ranges at new)
 lowered-adds ranges at id d new apart place inside above from to =
     let range : IdRange = get_or ranges at d in
@@ -200,7 +200,7 @@ lowered-adds ranges at id d new apart place inside above from to =
       | inr (inr more) ↦ (let h : id < a = more in inr (omega (arith, h, above), omega (arith, high, to)))
     ]))
 
-pub raised-adds : (ranges : List IdRange) (at above id : ℕ) (d new : IdRange) → AreApart ranges → IsPlace ranges id at → at < length ranges → above ≡ at + 1
+pub raised-adds : (ranges : List IdRange) (at above id : ℕ) (d new : IdRange) → AreApart ranges → IsRangeIndex ranges id at → at < length ranges → above ≡ at + 1
     → id ≡ (get_or ranges at d).to + 1 → ((e : IdRange) → above < length ranges → id + 2 ≤ (get_or ranges above e).from)
     → new.from ≡ (get_or ranges at d).from → new.to ≡ id → Adds ranges id (set ranges at new)
 raised-adds ranges at above id d new apart place inside next below far_above from to =
@@ -217,7 +217,7 @@ raised-adds ranges at above id d new apart place inside next below far_above fro
       | inr (inr more) ↦ absurd (let h : id < a = more in omega (arith, h, high, to))
     ]))
 
-pub joined-adds : (ranges : List IdRange) (at above id : ℕ) (d e new : IdRange) → AreApart ranges → IsPlace ranges id at → above < length ranges → above ≡ at + 1
+pub joined-adds : (ranges : List IdRange) (at above id : ℕ) (d e new : IdRange) → AreApart ranges → IsRangeIndex ranges id at → above < length ranges → above ≡ at + 1
     → id ≡ (get_or ranges at d).to + 1 → (get_or ranges above e).from ≤ id + 1
     → new.from ≡ (get_or ranges at d).from → new.to ≡ (get_or ranges above e).to → Adds ranges id (set (remove ranges above) at new)
 joined-adds ranges at above id d e new apart place inside next below near from to =
@@ -237,7 +237,7 @@ joined-adds ranges at above id d e new apart place inside next below near from t
         (subst (λ (old : List IdRange). Adds old id (new ∷ drop (suc (suc at)) ranges)) (sym two)
         (adds-join (get_or ranges at d) (get_or ranges (suc at) e) new (drop (suc (suc at)) ranges) id both below (omega (arith, below, close, gap)) from last)))
 
-pub kept-adds : (ranges : List IdRange) (at id : ℕ) (d : IdRange) → AreApart ranges → IsPlace ranges id at → at < length ranges
+pub kept-adds : (ranges : List IdRange) (at id : ℕ) (d : IdRange) → AreApart ranges → IsRangeIndex ranges id at → at < length ranges
     → (get_or ranges at d).from ≤ id → id ≤ (get_or ranges at d).to → Adds ranges id ranges
 kept-adds ranges at id d apart place inside low high = record {
   apart = apart;

@@ -6,7 +6,7 @@ use Rattle.std.proofs.lemmas.Bool.{false≢true, or_cases, or_left, or_right, an
 use Rattle.std.proofs.lemmas.Option.{same_Some}
 use Rattle.ql_base.specs.IdLists.{IsBelowAll, IsAscending, has_id}
 use Rattle.ql_ranges.specs.Ranges.{ids_in, ids_of, BeginAt, AreApart}
-use Rattle.ql_ranges.specs.Places.{IsPlace, IsRangeWith}
+use Rattle.ql_ranges.specs.Places.{IsRangeIndex, IsRangeWith}
 use Rattle.ql_ranges.specs.declared.ranges.IdRange.{IdRange}
 
 -- an id is one of those from one to another
@@ -167,7 +167,7 @@ has-none (range ∷ ranges) id before =
     not_within past = false_from_ne_true (within range.from range.to id) (λ is. (let bounds = within-parts range.from range.to id is in omega (arith, bounds, past)))
 
 -- the range at the place of an id has all up to another, where these are there
-pub all-at : (ranges : List IdRange) (at from to : ℕ) (d : IdRange) → AreApart ranges → at < length ranges → IsPlace ranges from at
+pub all-at : (ranges : List IdRange) (at from to : ℕ) (d : IdRange) → AreApart ranges → at < length ranges → IsRangeIndex ranges from at
     → from ≤ to → ((id : ℕ) → from ≤ id → id ≤ to → has_id (ids_of ranges) id ≡ true)
     → ((get_or ranges at d).from ≤ from) × (to ≤ (get_or ranges at d).to)
 all-at ranges at from to d apart inside place order all =
@@ -186,7 +186,7 @@ all-at ranges at from to d apart inside place order all =
     )
 
 -- and where that range has both, it has all between
-pub between-at : (ranges : List IdRange) (at from to : ℕ) (d : IdRange) → AreApart ranges → at < length ranges → IsPlace ranges from at
+pub between-at : (ranges : List IdRange) (at from to : ℕ) (d : IdRange) → AreApart ranges → at < length ranges → IsRangeIndex ranges from at
     → (get_or ranges at d).from ≤ from → to ≤ (get_or ranges at d).to
     → (id : ℕ) → from ≤ id → id ≤ to → has_id (ids_of ranges) id ≡ true
 between-at ranges at from to d apart inside place low high id above below =
@@ -194,7 +194,7 @@ between-at ranges at from to d apart inside place low high id above below =
     ∙ within-from (get_or ranges at d).from (get_or ranges at d).to id (omega (arith, low, above)) (omega (arith, below, high))
 
 -- that range, if it has the id
-pub range-at : (ranges : List IdRange) (at id : ℕ) (d range : IdRange) (found : Option IdRange) → AreApart ranges → at < length ranges → IsPlace ranges id at
+pub range-at : (ranges : List IdRange) (at id : ℕ) (d range : IdRange) (found : Option IdRange) → AreApart ranges → at < length ranges → IsRangeIndex ranges id at
     → range ≡ get_or ranges at d → found ≡ (if within range.from range.to id then Some range else None) → IsRangeWith ranges id found
 range-at ranges at id d range found apart inside place same is =
     subst (λ (o : Option IdRange). IsRangeWith ranges id o) (sym is) (by_test (within range.from range.to id) refl)

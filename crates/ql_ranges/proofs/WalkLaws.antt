@@ -12,7 +12,7 @@ use Rattle.ql_holder.proofs.IdSets.{has_id-with}
 use Rattle.ql_holder.proofs.Packages.{needed-need}
 use Rattle.ql_holder.proofs.Members.{has_id-push, has_id-index, get_or-front, get_or-end}
 use Rattle.ql_ranges.specs.Reach.{InEither}
-use Rattle.ql_ranges.specs.Walks.{IsWalk, Grows, Meets, MeetsLeading, GoesOn}
+use Rattle.ql_ranges.specs.Walks.{IsWalk, Grows, Meets, MeetsLeading, WalksOn}
 
 -- ---- lists
 
@@ -168,20 +168,20 @@ meets-more known ids found due more later last end k n one two = record {
 
 -- ---- with what an effect needs
 
-pub goes-with : (x : List Effect) (known ids found due more later : List ℕ) (e : ℕ) → ((a : ℕ) → Has ids a → Needs x e a) → Meets known ids found due more later → GoesOn x e found due more later
+pub goes-with : (x : List Effect) (known ids found due more later : List ℕ) (e : ℕ) → ((a : ℕ) → Has ids a → Needs x e a) → Meets known ids found due more later → WalksOn x e found due more later
 goes-with x known ids found due more later e each m = record {
   grows = m.grows;
   walk = λ asked needed w. m.walk x asked (λ a is. needed-need x asked e a needed (each a is)) w;
 }
 
-pub goes-with-one : (x : List Effect) (known found due more later : List ℕ) (e p : ℕ) → Needs x e p → Meets known (p ∷ []) found due more later → GoesOn x e found due more later
+pub goes-with-one : (x : List Effect) (known found due more later : List ℕ) (e p : ℕ) → Needs x e p → Meets known (p ∷ []) found due more later → WalksOn x e found due more later
 goes-with-one x known found due more later e p need m =
     goes-with x known (p ∷ []) found due more later e (λ a is. subst (λ (b : ℕ). Needs x e b) (one_id p a is) need) m
 
-pub goes-nowhere : (x : List Effect) (found due : List ℕ) (e : ℕ) → GoesOn x e found due found due
+pub goes-nowhere : (x : List Effect) (found due : List ℕ) (e : ℕ) → WalksOn x e found due found due
 goes-nowhere x found due e = record { grows = grows-same found due; walk = λ asked needed w. w }
 
-pub goes-along : (x : List Effect) (a : ℕ) (f d g e h i : List ℕ) → GoesOn x a f d g e → GoesOn x a g e h i → GoesOn x a f d h i
+pub goes-along : (x : List Effect) (a : ℕ) (f d g e h i : List ℕ) → WalksOn x a f d g e → WalksOn x a g e h i → WalksOn x a f d h i
 goes-along x a f d g e h i one two = record {
   grows = grows-along f d g e h i one.grows two.grows;
   walk = λ asked needed w. two.walk asked needed (one.walk asked needed w);

@@ -5,7 +5,7 @@ use Rattle.ql_ranges.specs.Ranges.{ids_of, BeginAt, AreApart}
 use Rattle.ql_ranges.specs.declared.ranges.IdRange.{IdRange}
 
 -- the index of the first range that doesn't end 2 or more below the id, or the number of ranges if all do
-pub record IsPlace (ranges : List IdRange) (id at : ℕ) : Type 0 where
+pub record IsRangeIndex (ranges : List IdRange) (id at : ℕ) : Type 0 where
   pub bound : at ≤ length ranges
   pub before : (k : ℕ) (d : IdRange) → k < at → (slice_index_or ranges k d).to + 2 ≤ id
   pub behind : (k : ℕ) (d : IdRange) → at ≤ k → k < length ranges → id ≤ (slice_index_or ranges k d).to + 1
@@ -26,9 +26,9 @@ pub record Adds (ranges : List IdRange) (id : ℕ) (more : List IdRange) : Type 
   pub begin : (bound : ℕ) → bound ≤ id → BeginAt bound ranges → BeginAt bound more
 
 -- whether there is no range at an index, or one that begins at least 2 above the id
-abbrev pub IsFree : List IdRange → ℕ → ℕ → Bool → Type 0
-IsFree ranges at id true = (d : IdRange) → at < length ranges → id + 2 ≤ (slice_index_or ranges at d).from
-IsFree ranges at id false = (at < length ranges) × ((d : IdRange) → (slice_index_or ranges at d).from ≤ id + 1)
+abbrev pub IsAboveGap : List IdRange → ℕ → ℕ → Bool → Type 0
+IsAboveGap ranges at id true = (d : IdRange) → at < length ranges → id + 2 ≤ (slice_index_or ranges at d).from
+IsAboveGap ranges at id false = (at < length ranges) × ((d : IdRange) → (slice_index_or ranges at d).from ≤ id + 1)
 
 -- a range that has all ids from one to its own end, or none if no range has that one
 abbrev pub IsRangeWith : List IdRange → ℕ → Option IdRange → Type 0

@@ -34,7 +34,7 @@ pub record MeetsLeading (known ids : List ℕ) (count : ℕ) (found due more lat
   pub meets : Meets known (take count ids) found due more later
 
 -- it continues with what an effect needs
-pub record GoesOn (x : List Effect) (e : ℕ) (found due more later : List ℕ) : Type 0 where
+pub record WalksOn (x : List Effect) (e : ℕ) (found due more later : List ℕ) : Type 0 where
   pub grows : Grows found due more later
   pub walk : (asked : List ℕ) → IsNeeded x asked e → IsWalk x asked found due → IsWalk x asked more later
 

@@ -2,7 +2,7 @@ ghost use Rattle.std.specs.Prelude.{◌≡◌, ◌↔◌, ◌+◌, ◌<◌, ◌�
 ghost use Rattle.ql_base.specs.IdLists.{IsAscending, has_id, with_id, union_of};
 ghost use Rattle.ql_ranges.specs.Ranges.{ids_of, AreApart};
 ghost use Rattle.ql_holder.specs.Closed.{Has};
-ghost use Rattle.ql_ranges.specs.Places.{Adds, IsBetween, IsFree, IsPlace, IsRangeWith};
+ghost use Rattle.ql_ranges.specs.Places.{Adds, IsBetween, IsAboveGap, IsRangeIndex, IsRangeWith};
 ghost use Rattle.ql_ranges.specs.declared.ranges.IdRange.{IdRange};
 
 use ql_base::{IdSet, NoMemory};
@@ -168,7 +168,7 @@ fn ends_below(range: IdRange, id: u32) -> bool
 // The number of ranges that end at least 2 below the id.
 fn place_of(ranges: &[IdRange], id: u32) -> usize
     requires { AreApart ranges.now }
-    ensures { IsPlace ranges.now id result }
+    ensures { IsRangeIndex ranges.now id result }
 {
     ranges.partition_point(|range| ends_below(*range, id))
 }
@@ -282,7 +282,7 @@ fn insert_in(ranges: &mut Vec<IdRange>, id: u32) -> Result<(), NoMemory>
 
 // Whether there is no range at this index, or one that begins at least 2 above the id.
 fn is_free(ranges: &[IdRange], at: usize, id: u32) -> bool
-    ensures { IsFree ranges.now at id result }
+    ensures { IsAboveGap ranges.now at id result }
 {
     match ranges.get(at) {
         Some(range) => begins_above(*range, id),
@@ -299,7 +299,7 @@ fn begins_above(range: IdRange, id: u32) -> bool
 // Adds an id that is in the range at the id's index, or next to that range.
 fn widen(ranges: &mut Vec<IdRange>, at: usize, id: u32)
     requires apart { AreApart ranges.old.items }
-    requires place { IsPlace ranges.old.items id at }
+    requires place { IsRangeIndex ranges.old.items id at }
     requires inside { at < length ranges.old.items }
     requires near { (d : IdRange) → (slice_index_or ranges.old.items at d).from ≤ id + 1 }
     ensures { Adds ranges.old.items id ranges.new.items }
@@ -319,7 +319,7 @@ fn widen(ranges: &mut Vec<IdRange>, at: usize, id: u32)
 // above the id.
 fn raise(ranges: &mut Vec<IdRange>, at: usize, id: u32)
     requires apart { AreApart ranges.old.items }
-    requires place { IsPlace ranges.old.items id at }
+    requires place { IsRangeIndex ranges.old.items id at }
     requires inside { at < length ranges.old.items }
     requires next { (d : IdRange) → id ≡ (slice_index_or ranges.old.items at d).to + 1 }
     ensures { Adds ranges.old.items id ranges.new.items }

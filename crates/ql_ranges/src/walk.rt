@@ -7,7 +7,7 @@ ghost use Rattle.ql_holder.specs.Closed.{Has};
 ghost use Rattle.ql_holder.specs.Needs.{AreWhole, Needs};
 ghost use Rattle.ql_ranges.specs.Ranges.{ids_of};
 ghost use Rattle.ql_ranges.specs.Reach.{InEither, IsReach};
-ghost use Rattle.ql_ranges.specs.Walks.{GoesOn, IsWalk, Meets, MeetsLeading, MetAbove, MetBefore, MetBelow, Visited};
+ghost use Rattle.ql_ranges.specs.Walks.{WalksOn, IsWalk, Meets, MeetsLeading, MetAbove, MetBefore, MetBelow, Visited};
 
 use crate::neighbours::{effect, last_on_object, member_above, member_below};
 use crate::ranges::Ranges;
@@ -102,7 +102,7 @@ fn visit(
     requires first { 1 ≤ e }
     requires last { e ≤ length effects.now }
     ensures on { OnOk result
-        (GoesOn effects.now e (ids_of walk.old.found) walk.old.due.items (ids_of walk.new.found)
+        (WalksOn effects.now e (ids_of walk.old.found) walk.old.due.items (ids_of walk.new.found)
         walk.new.due.items) }
     ensures visited { OnOk result
         (Visited effects.now search.now.asked.now (ids_of search.now.known.now) (ids_of walk.new.found) e) }
@@ -129,7 +129,7 @@ fn meet_before(
     requires first { 1 ≤ e }
     requires last { e ≤ length effects.now }
     ensures on { OnOk result
-        (GoesOn effects.now e (ids_of walk.old.found) walk.old.due.items (ids_of walk.new.found)
+        (WalksOn effects.now e (ids_of walk.old.found) walk.old.due.items (ids_of walk.new.found)
         walk.new.due.items) }
     ensures met { OnOk result (MetBefore effects.now (ids_of known.now) (ids_of walk.new.found) e) }
 {
@@ -152,7 +152,7 @@ fn meet_below(
     requires first { 1 ≤ e }
     requires last { e ≤ length effects.now }
     ensures on { OnOk result
-        (GoesOn effects.now e (ids_of walk.old.found) walk.old.due.items (ids_of walk.new.found)
+        (WalksOn effects.now e (ids_of walk.old.found) walk.old.due.items (ids_of walk.new.found)
         walk.new.due.items) }
     ensures met { OnOk result (MetBelow effects.now (ids_of known.now) (ids_of walk.new.found) e) }
 {
@@ -168,7 +168,7 @@ fn meet_above(effects: &[Effect], known: &Ranges, walk: &mut Walk, e: u32) -> Re
     requires first { 1 ≤ e }
     requires last { e ≤ length effects.now }
     ensures on { OnOk result
-        (GoesOn effects.now e (ids_of walk.old.found) walk.old.due.items (ids_of walk.new.found)
+        (WalksOn effects.now e (ids_of walk.old.found) walk.old.due.items (ids_of walk.new.found)
         walk.new.due.items) }
     ensures met { OnOk result (MetAbove effects.now (ids_of known.now) (ids_of walk.new.found) e) }
 {

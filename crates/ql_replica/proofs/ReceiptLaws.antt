@@ -19,7 +19,7 @@ use Rattle.ql_ranges.specs.declared.ranges.IdRange.{IdRange}
 use Rattle.ql_ranges.specs.Reach.{InEither, IsReach}
 use Rattle.ql_replica.specs.declared.waiting.Waiting.{Waiting}
 use Rattle.ql_replica.specs.Waiting.{FitsReplica, HoldSame, IsWatchIn, KeepsWaiting, Waits, Watches, held_by}
-use Rattle.ql_replica.specs.Progress.{AreKnown, IsMade, Advances, is_applied, settled, IsDecided, AreDecided, MayWatch, moved}
+use Rattle.ql_replica.specs.Progress.{IsAppliedSoFar, IsAppliedWith, Advances, is_applied, settled, IsDecided, AreDecided, MayWatch, moved}
 
 -- ---- what fits
 
@@ -56,13 +56,13 @@ keeps-fitted received applied held x fits = record {
   waits = fits.waits;
 }
 
-pub known-fitted : (received applied : List ℕ) (held : ℕ → Option Waiting) (x : List Effect) → FitsReplica received applied held x → AreKnown x received applied
+pub known-fitted : (received applied : List ℕ) (held : ℕ → Option Waiting) (x : List Effect) → FitsReplica received applied held x → IsAppliedSoFar x received applied
 known-fitted received applied held x fits = record {
   closed = fits.closed;
   whole = λ a b is need. applied-exact received applied held x fits b (closed-need (Needs x) (Has received) a b (fits.closed a is) need);
 }
 
-pub known-larger : (x : List Effect) (received after applied : List ℕ) → ((a : ℕ) → Has received a → Has after a) → AreKnown x received applied → AreKnown x after applied
+pub known-larger : (x : List Effect) (received after applied : List ℕ) → ((a : ℕ) → Has received a → Has after a) → IsAppliedSoFar x received applied → IsAppliedSoFar x after applied
 known-larger x received after applied within known = record {
   closed = λ a is. closed-larger (Needs x) (Has received) (Has after) within a (known.closed a is);
   whole = known.whole;
@@ -71,8 +71,8 @@ known-larger x received after applied within known = record {
 -- ---- a walk
 
 -- all that is found was received: it is applied
-pub known-more : (x : List Effect) (after pack applied found : List ℕ) → AreKnown x after applied → IsReach x pack applied found → ((a : ℕ) → Has found a → Has after a)
-    → AreKnown x after (union_of applied found)
+pub known-more : (x : List Effect) (after pack applied found : List ℕ) → IsAppliedSoFar x after applied → IsReach x pack applied found → ((a : ℕ) → Has found a → Has after a)
+    → IsAppliedSoFar x after (union_of applied found)
 known-more x after pack applied found known reach within = record {
   closed = λ a is. closed-from (Needs x) (Has after) (Has (union_of applied found)) inside whole a is;
   whole = whole;
@@ -121,7 +121,7 @@ advances-along a g b h c i one two = record {
 }
 
 -- the first id that is found and wasn't received is the least missing
-pub least-missing : (x : List Effect) (after pack applied found : List ℕ) (id : ℕ) → AreKnown x after applied → IsReach x pack applied found → IsFirstMissing found after (Some id) → IsLeastMissing x after pack id
+pub least-missing : (x : List Effect) (after pack applied found : List ℕ) (id : ℕ) → IsAppliedSoFar x after applied → IsReach x pack applied found → IsFirstMissing found after (Some id) → IsLeastMissing x after pack id
 least-missing x after pack applied found id known reach first = record {
   needed = reach.needed id first.0;
   absent = first.1;
@@ -198,7 +198,7 @@ pub record AreSettled (x : List Effect) (received after applied : List ℕ) (hel
   pub waits : (e : ℕ) → Has received e → has_id applied e ≡ false → Waits held e
 
 pub settled-all : (x : List Effect) (received after applied more : List ℕ) (held slots : ℕ → Option Waiting) (count : ℕ) (watches : List ℕ)
-    → FitsReplica received applied held x → ((a : ℕ) → Has received a → Has after a) → AreKnown x after more → ((a : ℕ) → Has applied a → Has more a)
+    → FitsReplica received applied held x → ((a : ℕ) → Has received a → Has after a) → IsAppliedSoFar x after more → ((a : ℕ) → Has applied a → Has more a)
     → ((key : ℕ) (w : Waiting) → held key ≡ Some w → IsDecided x after more (get_or watches key 0) w)
     → ((key : ℕ) → slots key ≡ settled more (get_or watches key 0) (held key))
     → AreSettled x received after more slots
@@ -323,7 +323,7 @@ wait-fits x received pack after applied held slots last missing key fits whole n
     own : Waiting
     own = record { pack = pack; watched = missing }
 
-    known : AreKnown x after applied
+    known : IsAppliedSoFar x after applied
     known = known-larger x received after applied (received-in received pack after new) (known-fitted received applied held x fits)
 
     all : AreSettled x received after applied slots
@@ -342,7 +342,7 @@ wait-fits x received pack after applied held slots last missing key fits whole n
 
 -- the package is applied, and maybe others with it
 pub apply-fits : (x : List Effect) (received pack after applied more : List ℕ) (held slots : ℕ → Option Waiting) (watches : List ℕ) → FitsReplica received applied held x → IsPackage x pack → IsNew received pack after → IsAscending after
-    → AreKnown x after more → ((a : ℕ) → Has applied a → Has more a) → ((a : ℕ) → Has pack a → Has more a)
+    → IsAppliedSoFar x after more → ((a : ℕ) → Has applied a → Has more a) → ((a : ℕ) → Has pack a → Has more a)
     → ((k : ℕ) (w : Waiting) → held k ≡ Some w → IsDecided x after more (get_or watches k 0) w) → ((k : ℕ) → slots k ≡ settled more (get_or watches k 0) (held k))
     → FitsReplica after more slots x
 apply-fits x received pack after applied more held slots watches fits whole new ascending known grows own decided is = record {
@@ -361,7 +361,7 @@ apply-fits x received pack after applied more held slots watches fits whole new 
 
 -- the package is applied, and no waiting one watched it
 pub apply-alone : (x : List Effect) (received pack after applied more : List ℕ) (held : ℕ → Option Waiting) → FitsReplica received applied held x → IsPackage x pack → IsNew received pack after → IsAscending after
-    → AreKnown x after more → ((a : ℕ) → Has applied a → Has more a) → ((a : ℕ) → Has pack a → Has more a)
+    → IsAppliedSoFar x after more → ((a : ℕ) → Has applied a → Has more a) → ((a : ℕ) → Has pack a → Has more a)
     → ((k : ℕ) (w : Waiting) → held k ≡ Some w → has_id pack w.watched ≡ false) → FitsReplica after more held x
 apply-alone x received pack after applied more held fits whole new ascending known grows own alone = record {
   ascending = ascending;
@@ -383,7 +383,7 @@ apply-alone x received pack after applied more held fits whole new ascending kno
 
 -- what is gained is applied behind the receipt and wasn't before
 pub gain-exact : (x : List Effect) (received after applied more gain rest : List ℕ) (held slots : ℕ → Option Waiting) → FitsReplica received applied held x → FitsReplica after more slots x
-    → IsMade applied more gain → ((a : ℕ) → has_id rest a ≡ (has_id gain a && not (has_id applied a))) → IsAscending rest → IsGain x received after rest
+    → IsAppliedWith applied more gain → ((a : ℕ) → has_id rest a ≡ (has_id gain a && not (has_id applied a))) → IsAscending rest → IsGain x received after rest
 gain-exact x received after applied more gain rest held slots before behind made is ascending = record {
   ascending = ascending;
   gained = λ a. (
@@ -443,18 +443,18 @@ none-before x received pack id p whole is none = package-out x pack received p w
 
 -- ---- a receipt as it begins
 
-pub known-begin : (x : List Effect) (received applied : List ℕ) (held : ℕ → Option Waiting) (pack after : List ℕ) → FitsReplica received applied held x → after ≡ union_of received pack → AreKnown x after applied
+pub known-begin : (x : List Effect) (received applied : List ℕ) (held : ℕ → Option Waiting) (pack after : List ℕ) → FitsReplica received applied held x → after ≡ union_of received pack → IsAppliedSoFar x after applied
 known-begin x received applied held pack after fits added =
     known-larger x received after applied (λ a is. subst (λ (l : List ℕ). Has l a) (sym added) (in_union-left received pack a is)) (known-fitted received applied held x fits)
 
 -- a package is applied together with all that it needs, and the gain has what was added
 pub record AreReached (x : List Effect) (after pack before applied gain : List ℕ) : Type 0 where
-  pub known : AreKnown x after applied
+  pub known : IsAppliedSoFar x after applied
   pub grows : (a : ℕ) → Has before a → Has applied a
   pub own : (a : ℕ) → Has pack a → Has applied a
-  pub made : IsMade before applied gain
+  pub made : IsAppliedWith before applied gain
 
-pub reached-first : (x : List Effect) (after pack before found applied : List ℕ) → AreKnown x after before → IsReach x pack before found → ((a : ℕ) → Has found a → Has after a) → applied ≡ union_of before found
+pub reached-first : (x : List Effect) (after pack before found applied : List ℕ) → IsAppliedSoFar x after before → IsReach x pack before found → ((a : ℕ) → Has found a → Has after a) → applied ≡ union_of before found
     → AreReached x after pack before applied found
 reached-first x after pack before found applied known reach within is = subst (λ (l : List ℕ). AreReached x after pack before l found) (sym is) (record {
   known = known-more x after pack before found known reach within;
@@ -463,7 +463,7 @@ reached-first x after pack before found applied known reach within is = subst (�
   made = λ a. has_id-union before found a;
 })
 
-pub reached-further : (x : List Effect) (after pack before applied gain more larger : List ℕ) → AreReached x after pack before applied gain → AreKnown x after more → Advances applied gain more larger
+pub reached-further : (x : List Effect) (after pack before applied gain more larger : List ℕ) → AreReached x after pack before applied gain → IsAppliedSoFar x after more → Advances applied gain more larger
     → AreReached x after pack before more larger
 reached-further x after pack before applied gain more larger reached known advances = record {
   known = known;

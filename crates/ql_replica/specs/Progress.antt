@@ -8,18 +8,18 @@ use Rattle.ql_holder.specs.Arrivals.{Applied, IsLeastMissing}
 use Rattle.ql_replica.specs.declared.waiting.Waiting.{Waiting}
 
 -- what is applied so far, when `after` has been received
-pub record AreKnown (x : List Effect) (after applied : List ℕ) : Type 0 where
+pub record IsAppliedSoFar (x : List Effect) (after applied : List ℕ) : Type 0 where
   pub closed : (a : ℕ) → Has applied a → Applied x after a
   pub whole : (a b : ℕ) → Has applied a → Needs x a b → Has applied b
 
 -- what is applied is what was applied before, and the gain
-abbrev pub IsMade : List ℕ → List ℕ → List ℕ → Type 0
-IsMade before applied gain = (a : ℕ) → has_id applied a ≡ (has_id before a || has_id gain a)
+abbrev pub IsAppliedWith : List ℕ → List ℕ → List ℕ → Type 0
+IsAppliedWith before applied gain = (a : ℕ) → has_id applied a ≡ (has_id before a || has_id gain a)
 
 -- more is applied, and the gain has what was added
 pub record Advances (applied gain more larger : List ℕ) : Type 0 where
   pub grows : (a : ℕ) → Has applied a → Has more a
-  pub made : (before : List ℕ) → IsMade before applied gain → IsMade before more larger
+  pub made : (before : List ℕ) → IsAppliedWith before applied gain → IsAppliedWith before more larger
 
 -- a package is applied, or the result is the least id that it needs and that hasn't been received
 abbrev pub IsWalked : List Effect → List ℕ → List ℕ → List ℕ → List ℕ → Option ℕ → Type 0

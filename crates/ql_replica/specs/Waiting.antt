@@ -42,14 +42,14 @@ pub record FitsReplica (received applied : List ℕ) (held : ℕ → Option Wait
   pub waits : (e : ℕ) → Has received e → has_id applied e ≡ false → Waits held e
 
 -- no effect of a waiting package is applied, and the id that it watches hasn't been received
-pub record IsHeld (received applied : List ℕ) (w : Waiting) : Type 0 where
+pub record IsStillWaiting (received applied : List ℕ) (w : Waiting) : Type 0 where
   pub within : (a : ℕ) → Has w.pack a → Has received a
   pub apart : (a : ℕ) → Has w.pack a → has_id applied a ≡ false
   pub absent : has_id received w.watched ≡ false
 
 -- what holds whatever the execution
 pub record KeepsWaiting (received applied : List ℕ) (held : ℕ → Option Waiting) : Type 0 where
-  pub each : (key : ℕ) (w : Waiting) → held key ≡ Some w → IsHeld received applied w
+  pub each : (key : ℕ) (w : Waiting) → held key ≡ Some w → IsStillWaiting received applied w
   pub waits : (e : ℕ) → Has received e → has_id applied e ≡ false → Waits held e
 
 -- the id that is watched for an effect; none if the effect hasn't been received, or is applied
@@ -63,15 +63,15 @@ IsWatchIn held e None = (key : ℕ) (w : Waiting) → held key ≡ Some w → ha
 IsWatchIn held e (Some watched) = (key : ℕ) × (w : Waiting) × (held key ≡ Some w) × Has w.pack e × (w.watched ≡ watched.0)
 
 -- each package of one is in the other
-abbrev pub AreAmong : (ℕ → Option Waiting) → (ℕ → Option Waiting) → Type 0
-AreAmong held others = (key : ℕ) (w : Waiting) → held key ≡ Some w → (other : ℕ) × (others other ≡ Some w)
+abbrev pub AreHeldAmong : (ℕ → Option Waiting) → (ℕ → Option Waiting) → Type 0
+AreHeldAmong held others = (key : ℕ) (w : Waiting) → held key ≡ Some w → (other : ℕ) × (others other ≡ Some w)
 
 -- the same packages, whatever their keys
 abbrev pub HoldSame : (ℕ → Option Waiting) → (ℕ → Option Waiting) → Type 0
-HoldSame held others = AreAmong held others × AreAmong others held
+HoldSame held others = AreHeldAmong held others × AreHeldAmong others held
 
 -- with the package of one slot added
 pub record IsWithSlot (held : ℕ → Option Waiting) (slot : Option Waiting) (more : ℕ → Option Waiting) : Type 0 where
-  pub keeps : AreAmong held more
+  pub keeps : AreHeldAmong held more
   pub adds : (w : Waiting) → slot ≡ Some w → (other : ℕ) × (more other ≡ Some w)
   pub only : (key : ℕ) (w : Waiting) → more key ≡ Some w → (slot ≡ Some w) ⊎ ((other : ℕ) × (held other ≡ Some w))

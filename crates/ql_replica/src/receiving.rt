@@ -7,7 +7,7 @@ ghost use Rattle.ql_holder.specs.Arrivals.{ChangesNothing, IsArrival, IsGain, Is
 ghost use Rattle.ql_ranges.specs.Ranges.{ids_of};
 ghost use Rattle.ql_ranges.specs.Reach.{IsReach};
 ghost use Rattle.ql_replica.specs.declared.waiting.Waiting.{Waiting};
-ghost use Rattle.ql_replica.specs.Progress.{AreKnown, MayWatch};
+ghost use Rattle.ql_replica.specs.Progress.{IsAppliedSoFar, MayWatch};
 ghost use Rattle.ql_replica.specs.Waiting.{FitsReplica};
 ghost use Rattle.slab.specs.Slab.{get};
 
@@ -71,7 +71,7 @@ fn apply(
     found: IdSet,
 ) -> Result<IdSet, NoMemory>
     requires package { IsPackage x.now pack.now }
-    requires known { AreKnown x.now (ids_of after.now) (ids_of applied.old) }
+    requires known { IsAppliedSoFar x.now (ids_of after.now) (ids_of applied.old) }
     requires held { (key : ℕ) (w : Waiting) → get waiting.old key ≡ Some w
         → MayWatch x.now (ids_of after.now) pack.now w }
     requires found { IsReach x.now pack.now (ids_of applied.old) found }

@@ -6,7 +6,7 @@ ghost use Rattle.ql_holder.specs.Needs.{IsPackage};
 ghost use Rattle.ql_ranges.specs.Ranges.{ids_of};
 ghost use Rattle.ql_replica.specs.declared.waiting.Waiting.{Waiting};
 ghost use Rattle.ql_holder.specs.Missing.{IsFirstMissing};
-ghost use Rattle.ql_replica.specs.Progress.{Advances, AreDecided, AreKnown, IsDecided, IsWalked, MayWatch};
+ghost use Rattle.ql_replica.specs.Progress.{Advances, AreDecided, IsAppliedSoFar, IsDecided, IsWalked, MayWatch};
 ghost use Rattle.slab.specs.Slab.{get};
 
 use crate::waiting::Waiting;
@@ -34,11 +34,11 @@ pub(crate) fn walk(
     progress: &mut Progress,
 ) -> Result<Option<u32>, NoMemory>
     requires package { IsPackage x.now pack.now }
-    requires known { AreKnown x.now (ids_of after.now) (ids_of progress.old.applied) }
+    requires known { IsAppliedSoFar x.now (ids_of after.now) (ids_of progress.old.applied) }
     ensures walked { IfOk result
         (IsWalked x.now (ids_of after.now) pack.now (ids_of progress.old.applied)
         (ids_of progress.new.applied)) }
-    ensures known { OnOk result (AreKnown x.now (ids_of after.now) (ids_of progress.new.applied)) }
+    ensures known { OnOk result (IsAppliedSoFar x.now (ids_of after.now) (ids_of progress.new.applied)) }
     ensures advances { OnOk result
         (Advances (ids_of progress.old.applied) progress.old.gain (ids_of progress.new.applied)
         progress.new.gain) }
@@ -74,14 +74,14 @@ pub(crate) fn walk_waiting(
     after: &Ranges,
     progress: &mut Progress,
 ) -> Result<Vec<u32>, NoMemory>
-    requires known { AreKnown x.now (ids_of after.now) (ids_of progress.old.applied) }
+    requires known { IsAppliedSoFar x.now (ids_of after.now) (ids_of progress.old.applied) }
     requires held { (key : ℕ) (w : Waiting) → get waiting.now key ≡ Some w
         → MayWatch x.now (ids_of after.now) pack.now w }
     ensures slots { IfOk result (λ watches. length waiting.now.slots ≤ length watches.items) }
     ensures decided { IfOk result
         (λ watches. AreDecided x.now (ids_of after.now) (ids_of progress.new.applied)
         (get waiting.now) watches.items) }
-    ensures known { OnOk result (AreKnown x.now (ids_of after.now) (ids_of progress.new.applied)) }
+    ensures known { OnOk result (IsAppliedSoFar x.now (ids_of after.now) (ids_of progress.new.applied)) }
     ensures advances { OnOk result
         (Advances (ids_of progress.old.applied) progress.old.gain (ids_of progress.new.applied)
         progress.new.gain) }
@@ -103,13 +103,13 @@ fn new_watch(
     after: &Ranges,
     progress: &mut Progress,
 ) -> Result<u32, NoMemory>
-    requires known { AreKnown x.now (ids_of after.now) (ids_of progress.old.applied) }
+    requires known { IsAppliedSoFar x.now (ids_of after.now) (ids_of progress.old.applied) }
     requires held { (w : Waiting) → get waiting.now key ≡ Some w
         → MayWatch x.now (ids_of after.now) pack.now w }
     ensures decided { IfOk result
         (λ watch. (w : Waiting) → get waiting.now key ≡ Some w
         → IsDecided x.now (ids_of after.now) (ids_of progress.new.applied) watch w) }
-    ensures known { OnOk result (AreKnown x.now (ids_of after.now) (ids_of progress.new.applied)) }
+    ensures known { OnOk result (IsAppliedSoFar x.now (ids_of after.now) (ids_of progress.new.applied)) }
     ensures advances { OnOk result
         (Advances (ids_of progress.old.applied) progress.old.gain (ids_of progress.new.applied)
         progress.new.gain) }
@@ -128,11 +128,11 @@ fn walk_held(
     after: &Ranges,
     progress: &mut Progress,
 ) -> Result<u32, NoMemory>
-    requires known { AreKnown x.now (ids_of after.now) (ids_of progress.old.applied) }
+    requires known { IsAppliedSoFar x.now (ids_of after.now) (ids_of progress.old.applied) }
     requires held { MayWatch x.now (ids_of after.now) pack.now held.now }
     ensures decided { IfOk result
         (λ watch. IsDecided x.now (ids_of after.now) (ids_of progress.new.applied) watch held.now) }
-    ensures known { OnOk result (AreKnown x.now (ids_of after.now) (ids_of progress.new.applied)) }
+    ensures known { OnOk result (IsAppliedSoFar x.now (ids_of after.now) (ids_of progress.new.applied)) }
     ensures advances { OnOk result
         (Advances (ids_of progress.old.applied) progress.old.gain (ids_of progress.new.applied)
         progress.new.gain) }

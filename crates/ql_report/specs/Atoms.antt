@@ -48,22 +48,22 @@ reported_atom t atom = if unwrap_or (slice_get t.values (atom_place t.size atom)
 abbrev pub row_text : Reported → PairKind → ℕ → List ℕ
 row_text t kind i = upto t.size.constants (λ j. reported_atom t (Pair kind i j))
 
-abbrev pub relation_text : Reported → PairKind → List ℕ
-relation_text t kind = upto t.size.constants (row_text t kind)
+abbrev pub relation_atoms_text : Reported → PairKind → List ℕ
+relation_atoms_text t kind = upto t.size.constants (row_text t kind)
 
 unfoldable pub relations_text : Reported → List ℕ
 relations_text t =
-    relation_text t Eq ++ relation_text t So ++ relation_text t SameObj ++ relation_text t Vis
-    ++ relation_text t Hbo ++ relation_text t Hb ++ relation_text t SameTxn
+    relation_atoms_text t Eq ++ relation_atoms_text t So ++ relation_atoms_text t SameObj ++ relation_atoms_text t Vis
+    ++ relation_atoms_text t Hbo ++ relation_atoms_text t Hb ++ relation_atoms_text t SameTxn
 
 unfoldable pub currents_text : Reported → List ℕ
 currents_text t = upto t.size.constants (λ i. reported_atom t (Current i))
 
-abbrev pub operation_text : Reported → ℕ → List ℕ
-operation_text t o = upto t.size.constants (λ i. reported_atom t (Is (op o) i))
+abbrev pub operation_atoms_text : Reported → ℕ → List ℕ
+operation_atoms_text t o = upto t.size.constants (λ i. reported_atom t (Is (op o) i))
 
 unfoldable pub operations_text : Reported → List ℕ
-operations_text t = upto t.size.operations (operation_text t)
+operations_text t = upto t.size.operations (operation_atoms_text t)
 
 -- the line of the true atoms
 unfoldable pub atoms_line : Reported → List ℕ

@@ -3,7 +3,7 @@ ghost use Rattle.std.specs.Prelude.{◌≡◌, ◌<◌, ◌++◌, codes, false, 
 ghost use Rattle.ql_atoms.specs.Atoms.{Fits, atom_place, size_of};
 ghost use Rattle.ql_typing.specs.Names.{op_name};
 ghost use Rattle.ql_typing.specs.Operations.{all_ops};
-ghost use Rattle.ql_report.specs.Atoms.{atom_text, atoms_line, constant_word, currents_text, pair_kind_word, operation_text, operations_text, relation_text, relations_text, row_text, reported_atom};
+ghost use Rattle.ql_report.specs.Atoms.{atom_text, atoms_line, constant_word, currents_text, pair_kind_word, operation_atoms_text, operations_text, relation_atoms_text, relations_text, row_text, reported_atom};
 ghost use Rattle.ql_report.specs.Report.{reported_of};
 
 use crate::levels::op_name;
@@ -49,7 +49,7 @@ fn push_relations(out: &mut Vec<u8>, reported: &Report) -> Result<(), NoMemory>
 
 fn push_relation(out: &mut Vec<u8>, reported: &Report, kind: PairKind) -> Result<(), NoMemory>
     requires { reported.now.shape.operations ≡ length (all_ops reported.now.typed.now.program.types) }
-    ensures { OnOk result (out.new.items ≡ out.old.items ++ relation_text (reported_of reported.now) kind) }
+    ensures { OnOk result (out.new.items ≡ out.old.items ++ relation_atoms_text (reported_of reported.now) kind) }
 {
     for i in 0..reported.shape.constants {
         push_row(out, reported, kind, i)?;
@@ -95,7 +95,7 @@ fn push_operation(out: &mut Vec<u8>, reported: &Report, o: OpId) -> Result<(), N
     requires operations { reported.now.shape.operations
         ≡ length (all_ops reported.now.typed.now.program.types) }
     requires op { o.0 < reported.now.shape.operations }
-    ensures { OnOk result (out.new.items ≡ out.old.items ++ operation_text (reported_of reported.now) o.0) }
+    ensures { OnOk result (out.new.items ≡ out.old.items ++ operation_atoms_text (reported_of reported.now) o.0) }
 {
     for i in 0..reported.shape.constants {
         push_if_true(out, reported, Atom::Is(o, i))?;

@@ -16,7 +16,7 @@ use Rattle.ql_exec.specs.Execution.{next_id}
 use Rattle.ql_machine.specs.Kept.{Keeps}
 use Rattle.ql_machine.proofs.Keeping.{keeps-empty, keeps-step}
 use Rattle.ql_machine.proofs.Lists.{all-kept, received-kept}
-use Rattle.ql_runs.specs.Watching.{Watches, nothing, more, new_ids}
+use Rattle.ql_runs.specs.Watching.{WatchedRun, nothing, more, new_ids}
 use Rattle.ql_restart.specs.Progress.{AreDistinct, CanRecover}
 use Rattle.ql_restart.proofs.Counting.{below-absent}
 
@@ -126,7 +126,7 @@ record IsSoFar (rules : Rules) (n r : ℕ) (s : Machine) (arrivals : List ℕ) :
   distinct : AreDistinct arrivals
   among : (a : ℕ) → Has arrivals a → Holds s r a
 
-so-far : (rules : Rules) (n r : ℕ) (events : List Event) (s : Machine) (arrivals : List ℕ) → Watches rules n r events s arrivals → IsSoFar rules n r s arrivals
+so-far : (rules : Rules) (n r : ℕ) (events : List Event) (s : Machine) (arrivals : List ℕ) → WatchedRun rules n r events s arrivals → IsSoFar rules n r s arrivals
 so-far rules n r _ _ _ nothing = record { keeps = keeps-empty rules.promises n; distinct = tt; among = λ a has. absurd (false≢true has) }
 so-far rules n r _ _ _ (more events s arrivals event next reply before step) =
     let was = so-far rules n r events s arrivals before in
@@ -148,7 +148,7 @@ so-far rules n r _ _ _ (more events s arrivals event next reply before step) =
     unknown true is has = false≢true is
     unknown false is has = false≢true has
 
-pub can_recover : (rules : Rules) (n r : ℕ) (events : List Event) (s : Machine) (arrivals : List ℕ) → Watches rules n r events s arrivals
+pub can_recover : (rules : Rules) (n r : ℕ) (events : List Event) (s : Machine) (arrivals : List ℕ) → WatchedRun rules n r events s arrivals
     → AllByRecursion (λ a. (1 ≤ a) × (a ≤ length s.effects)) arrivals → length s.effects ≤ 4000 → CanRecover s arrivals
 can_recover rules n r events s arrivals watches there few =
     let is = so-far rules n r events s arrivals watches in

@@ -19,7 +19,7 @@ use Rattle.ql_journal.proofs.EndLaws.{one_list}
 use Rattle.ql_holder.specs.Closed.{Has}
 use Rattle.ql_holder.proofs.Packages.{sametxn-along, sametxn-back}
 use Rattle.ql_restart.specs.Journaled.{is_first, packages}
-use Rattle.ql_restart.specs.Progress.{AreDistinct, AreOfFirst, IsJournal, IsReady, Receives, UnlessNoMemory, calls_left}
+use Rattle.ql_restart.specs.Progress.{AreDistinct, AreOfFirst, IsJournal, IsReadyStation, Receives, UnlessNoMemory, calls_left}
 use Rattle.ql_restart.proofs.Arrivals.{distinct-before, in-filter}
 use Rattle.ql_restart.proofs.Firsts.{one_first}
 use Rattle.ql_restart.proofs.Records.{more_packages, none_of_nothing, of_record, one_more}
@@ -51,14 +51,14 @@ is_member (id ∷ ids) (suc k) a at = or_right (nat_eq id a) (has_id ids a) (is_
 module _ {H : Type 0} (received : H → List ℕ) (fits : H → List Effect → Type 0) (x : List Effect) where
   -- the packages of the first arrivals are in the journal
   pub record IsJournaling (arrivals : List ℕ) (calls : ℕ) (disk : MemDisk) (station : Station H) : Type 0 where
-    pub ready : IsReady received fits x disk station
+    pub ready : IsReadyStation received fits x disk station
     pub records : List (List ℕ)
     pub has : HasRecords records (content_of disk)
     pub are : AreOfFirst x (packages x arrivals) records
     pub count : length records ≡ length (packages x arrivals)
     pub spent : calls_left disk + 4 * length records ≡ calls
 
-  pub starts : (disk : MemDisk) (station : Station H) → IsReady received fits x disk station → received (holder_of station) ≡ [] → IsJournaling [] (calls_left disk) disk station
+  pub starts : (disk : MemDisk) (station : Station H) → IsReadyStation received fits x disk station → received (holder_of station) ≡ [] → IsJournaling [] (calls_left disk) disk station
   starts disk station ready nothing =
       let agrees = ready.agrees in
       let none : agrees.records ≡ [] = none_of_nothing agrees.records agrees.has.lawful (λ a. sym (agrees.ids a) ∙ ap (λ (ids : List ℕ). has_id ids a) nothing) in

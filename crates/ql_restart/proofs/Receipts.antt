@@ -6,7 +6,7 @@ use Rattle.ql_base.specs.IdLists.{IsAscending, has_id, union_of}
 use Rattle.ql_base.proofs.IdLemmas.{IsAscending-union}
 use Rattle.ql_journal.specs.declared.mem_disk.MemDisk.{MemDisk}
 use Rattle.ql_journal.specs.Forecasts.{Forecast, Foretold}
-use Rattle.ql_journal.specs.MemDisks.{forecast_of, room_of}
+use Rattle.ql_journal.specs.MemDisks.{forecast_of, disk_room}
 use Rattle.ql_exec.specs.declared.effect.Effect.{Effect}
 use Rattle.ql_holder.specs.Arrivals.{IsArrival}
 use Rattle.ql_holder.specs.declared.arrival.Arrival.{Arrival}
@@ -89,11 +89,11 @@ module _ (x : List Effect) (before ids : List ℕ) (ascending : IsAscending befo
 
 -- ---- what a disk still does
 
-module _ (before after : MemDisk) (calls end : ℕ) (room : end ≤ room_of before) where
+module _ (before after : MemDisk) (calls end : ℕ) (room : end ≤ disk_room before) where
   abbrev forecast : Forecast
-  forecast = record { calls = calls_left before; room = room_of before }
+  forecast = record { calls = calls_left before; room = disk_room before }
 
-  pub all_done : Foretold forecast calls end true (forecast_of after) → (calls_left after + calls ≡ calls_left before) × (room_of after ≡ room_of before)
+  pub all_done : Foretold forecast calls end true (forecast_of after) → (calls_left after + calls ≡ calls_left before) × (disk_room after ≡ disk_room before)
   all_done is =
       let enough = leb-true calls (calls_left before) (sym (is.outcome room)) in
       let next = is.forecast_after room refl in

@@ -6,7 +6,7 @@ use Rattle.std.proofs.lemmas.Option.{same_Some, slice_get_within}
 use Rattle.ql_base.specs.IdLists.{has_id}
 use Rattle.ql_exec.specs.declared.effect.Effect.{Effect}
 use Rattle.ql_exec.specs.Relations.{sametxn}
-use Rattle.ql_journal.specs.Records.{IsLawful, in_records}
+use Rattle.ql_journal.specs.Records.{HasLawfulIds, in_records}
 use Rattle.ql_restart.specs.Journaled.{IsJournaled, packages}
 use Rattle.ql_restart.specs.Progress.{AreOfFirst, IsJournal}
 
@@ -45,7 +45,7 @@ module _ (x : List Effect) where
       or_right (has_id r a) (in_records records a) (in_record ps records are.1 k first a (omega (arith, less)) at same)
 
 -- no records are those of nothing
-pub none_of_nothing : (records : List (List ℕ)) → AllByRecursion IsLawful records → ((a : ℕ) → in_records records a ≡ false) → records ≡ []
+pub none_of_nothing : (records : List (List ℕ)) → AllByRecursion HasLawfulIds records → ((a : ℕ) → in_records records a ≡ false) → records ≡ []
 none_of_nothing [] lawful none = refl
 none_of_nothing (ids ∷ records) lawful none = absurd (some ids lawful.0 (λ a. not_first (has_id ids a) (in_records records a) (none a)))
   where
@@ -53,7 +53,7 @@ none_of_nothing (ids ∷ records) lawful none = absurd (some ids lawful.0 (λ a.
     not_first true c is = is
     not_first false c is = refl
 
-    some : (ids : List ℕ) → IsLawful ids → ((a : ℕ) → has_id ids a ≡ false) → ⊥
+    some : (ids : List ℕ) → HasLawfulIds ids → ((a : ℕ) → has_id ids a ≡ false) → ⊥
     some [] lawful none = let enough = lawful.some in omega (arith, enough)
     some (id ∷ ids) lawful none = false≢true (sym (none id) ∙ or_left _ (has_id ids id) (eq-eqb id id refl))
 

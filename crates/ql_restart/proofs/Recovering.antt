@@ -5,8 +5,8 @@ use Rattle.std.proofs.lemmas.Bool.{false≢true, or_cases, or_left, or_right, eq
 use Rattle.ql_base.specs.IdLists.{has_id}
 use Rattle.ql_exec.specs.Relations.{sametxn}
 use Rattle.ql_holder.specs.Arrivals.{Applied}
-use Rattle.ql_journal.specs.Ends.{AreKnown}
-use Rattle.ql_journal.specs.Records.{IsLawful, in_records}
+use Rattle.ql_journal.specs.Ends.{AreCommittedRecords}
+use Rattle.ql_journal.specs.Records.{HasLawfulIds, in_records}
 use Rattle.ql_machine.specs.Sets.{AreThose}
 use Rattle.ql_machine.specs.State.{Machine, NeedsNow}
 use Rattle.ql_machine.specs.Kept.{IsDone}
@@ -41,8 +41,8 @@ module _ (s : Machine) (arrivals : List ℕ) (can : CanRecover s arrivals) where
   -- ---- known records
 
   module _ (ids_committed : List ℕ) (those : AreThose Done ids_committed) where
-    known_records : (ps : List ℕ) (records : List (List ℕ)) → ((a : ℕ) → Has ps a → Has (packages s.effects arrivals) a) → AllByRecursion IsLawful records
-        → AreOfFirst s.effects ps records → AreKnown s.effects ids_committed records
+    known_records : (ps : List ℕ) (records : List (List ℕ)) → ((a : ℕ) → Has ps a → Has (packages s.effects arrivals) a) → AllByRecursion HasLawfulIds records
+        → AreOfFirst s.effects ps records → AreCommittedRecords s.effects ids_committed records
     known_records ps [] within lawful are = tt
     known_records [] (ids ∷ records) within lawful are = absurd are
     known_records (p ∷ ps) (ids ∷ records) within lawful are =

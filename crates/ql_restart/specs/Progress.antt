@@ -4,13 +4,13 @@ use Rattle.std.specs.List.{AllByRecursion}
 use Rattle.std.specs.Option.{option_map_or}
 use Rattle.ql_base.specs.IdLists.{has_id}
 use Rattle.ql_journal.specs.declared.mem_disk.MemDisk.{MemDisk}
-use Rattle.ql_journal.specs.MemDisks.{bytes_of, content_of, forecast_of, room_of}
+use Rattle.ql_journal.specs.MemDisks.{bytes_of, content_of, forecast_of, disk_room}
 use Rattle.ql_exec.specs.declared.effect.Effect.{Effect}
 use Rattle.ql_exec.specs.Relations.{sametxn}
 use Rattle.ql_journal.specs.declared.station.Station.{Station}
 use Rattle.ql_journal.specs.declared.why.StationWhy.{StationWhy}
 use Rattle.ql_journal.specs.declared.why.StationWhy.TheVariants as why
-use Rattle.ql_journal.specs.Ends.{AreKnown}
+use Rattle.ql_journal.specs.Ends.{AreCommittedRecords}
 use Rattle.ql_journal.specs.Records.{HasRecords}
 use Rattle.ql_journal.specs.Stations.{Agrees, end_of, holder_of, is_stopped}
 use Rattle.ql_machine.specs.Rules.{Promises}
@@ -40,24 +40,24 @@ pub record IsJournal (x : List Effect) (packages : List ℕ) (calls : ℕ) (file
 -- a file has records that are known
 pub record HasKnown (x : List Effect) (committed file : List ℕ) : Type 0 where
   pub records : List (List ℕ)
-  pub known : AreKnown x committed records
+  pub known : AreCommittedRecords x committed records
   pub has : HasRecords records file
 
 -- ---- the station
 
 module _ {H : Type 0} (received : H → List ℕ) (fits : H → List Effect → Type 0) (x : List Effect) where
   -- It may receive a package. What it journaled takes 9 bytes an effect at most, so that all of it has room.
-  pub record IsReady (disk : MemDisk) (station : Station H) : Type 0 where
+  pub record IsReadyStation (disk : MemDisk) (station : Station H) : Type 0 where
     pub fit : fits (holder_of station) x
     pub runs : is_stopped station ≡ false
     pub agrees : Agrees received (bytes_of disk) station
     pub short : end_of station ≤ 9 * length (received (holder_of station))
-    pub room : room_of disk ≡ 40000
+    pub room : disk_room disk ≡ 40000
 
   -- a package is journaled by four calls, or one of these isn't done
   abbrev pub Receives : List ℕ → MemDisk → Result (Unit {0}) StationWhy → MemDisk → Station H → Type 0
   Receives ids before (Ok done) after station =
-      IsReady after station × (calls_left after + 4 ≡ calls_left before)
+      IsReadyStation after station × (calls_left after + 4 ≡ calls_left before)
       × ((records : List (List ℕ)) → HasRecords records (content_of before) → HasRecords (records ++ ids ∷ []) (content_of after))
   Receives ids before (Err why.Failed) after station =
       (calls_left before < 4) × ((records : List (List ℕ)) → HasRecords records (content_of before) → HasRecords records (bytes_of after).base)

@@ -17,7 +17,7 @@ use Rattle.ql_holder.specs.Closed.{Closed, Has}
 use Rattle.ql_running.specs.Runs.{NoRunSays}
 use Rattle.ql_schedule.specs.declared.schedule.Schedule.{Schedule}
 use Rattle.ql_schedule.specs.Files.{IsScheduleFile}
-use Rattle.ql_runs.specs.Watching.{Watches}
+use Rattle.ql_runs.specs.Watching.{WatchedRun}
 use Rattle.ql_restart.specs.Journaled.{IsJournaled}
 
 -- a line of a word and ids
@@ -43,7 +43,7 @@ pub record ReportsRestart (source file : List ℕ) (replica cut : ℕ) (text : L
   pub is_schedule : IsScheduleFile program (ahead_from 1 file) schedule
   pub are_least : AreLevelsOf program levels
   pub is_replica : replica < replicas_at_end schedule.replicas schedule.events
-  pub run : Watches (rules_of program levels) schedule.replicas replica schedule.events last arrivals
+  pub run : WatchedRun (rules_of program levels) schedule.replicas replica schedule.events last arrivals
   pub printed : IsRestartText last arrivals cut text
 
 -- The program is accepted, and the replica isn't there after the events of the schedule.

@@ -5,7 +5,7 @@ ghost use Rattle.ql_journal.specs.Stations.{holder_of};
 ghost use Rattle.ql_machine.specs.Kept.{IsParcel};
 ghost use Rattle.ql_holder.specs.Closed.{Has};
 ghost use Rattle.ql_restart.specs.Journaled.{packages};
-ghost use Rattle.ql_restart.specs.Progress.{AreOnce, IsJournal, IsReady, Receives, UnlessNoMemory, calls_left};
+ghost use Rattle.ql_restart.specs.Progress.{AreOnce, IsJournal, IsReadyStation, Receives, UnlessNoMemory, calls_left};
 
 use ql_base::{EffId, IdSet, NoMemory};
 use ql_exec::Execution;
@@ -52,7 +52,7 @@ fn journal_all<H: Holder>(
 ) -> Result<(), StationWhy>
     requires few { length x.now ≤ 4000 }
     requires once { AreOnce x.now arrivals.now }
-    requires ready { IsReady H.received H.fits x.now disk.old station }
+    requires ready { IsReadyStation H.received H.fits x.now disk.old station }
     requires nothing { H.received (holder_of station) ≡ [] }
     ensures { UnlessNoMemory result
         (IsJournal x.now (packages x.now arrivals.now) (calls_left disk.old)
@@ -76,7 +76,7 @@ fn receive_new<H: Holder>(
 ) -> Result<(), StationWhy>
     requires few { length x.now ≤ 4000 }
     requires package { IsParcel x.now pack.now }
-    requires ready { IsReady H.received H.fits x.now disk.old station.old }
+    requires ready { IsReadyStation H.received H.fits x.now disk.old station.old }
     requires new { (a : ℕ) → Has pack.now a
         → has_id (H.received (holder_of station.old)) a ≡ false }
     ensures { Receives H.received H.fits x.now pack.now disk.old result disk.new station.new }

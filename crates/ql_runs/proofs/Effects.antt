@@ -37,7 +37,7 @@ use Rattle.ql_schedule.specs.Guarantees.{FitsCall, FitsEvent}
 use Rattle.ql_typing.specs.Operations.{all_ops, op_kinds}
 use Rattle.ql_value.specs.declared.value.Value.{Value}
 use Rattle.ql_store.specs.State.{AreDeclared}
-use Rattle.ql_runs.specs.Keeping.{FitsSchedule, IsDeclared, IsMade}
+use Rattle.ql_runs.specs.Keeping.{FitsSchedule, IsDeclaredBelow, NamesFirstEffects}
 
 -- ---- effects in order
 
@@ -93,7 +93,7 @@ module _ (p : Program) (replicas objects : ℕ) (kinds : List TypeId) where
 -- ---- effects that are made
 
 -- an effect that a reply names is there, and stays there
-made-call : (rules : Rules) (s : Machine) (c : Call) (after : Machine) (r : Reply) → IsCall rules s c after r → IsMade (length after.effects) r
+made-call : (rules : Rules) (s : Machine) (c : Call) (after : Machine) (r : Reply) → IsCall rules s c after r → NamesFirstEffects (length after.effects) r
 made-call rules s c _ _ (undeclared t is lacks) = tt
 made-call rules s c _ _ (unused t is declares unlisted) = tt
 made-call rules s c _ _ (unavailable q allowed level least) = tt
@@ -103,14 +103,14 @@ made-call rules s c _ _ (makes seen may none weak) = let long = length-append s.
 made-call rules s c _ _ (makes_strong seen ids may none level are) = let long = length-append s.effects (effect_made rules s c seen ∷ []) in (omega arith, omega (arith, long))
 made-call rules s c _ _ (makes_own t seen may is) = let long = length-append s.effects (effect_made rules s c seen ∷ []) in (omega arith, omega (arith, long))
 
-made-delivery : (s : Machine) (n m : ℕ) (after : Machine) (r : Reply) → IsDelivery s m after r → IsMade n r
+made-delivery : (s : Machine) (n m : ℕ) (after : Machine) (r : Reply) → IsDelivery s m after r → NamesFirstEffects n r
 made-delivery s n m _ _ (gone none) = tt
 made-delivery s n m _ _ (cut message is apart) = tt
 made-delivery s n m _ _ (again message is passes known) = tt
 made-delivery s n m _ _ (waits message a new least) = tt
 made-delivery s n m _ _ (applies message ids new all are) = tt
 
-pub made-step : (rules : Rules) (s : Machine) (e : Event) (after : Machine) (r : Reply) → IsStep rules s e after r → IsMade (length after.effects) r
+pub made-step : (rules : Rules) (s : Machine) (e : Event) (after : Machine) (r : Reply) → IsStep rules s e after r → NamesFirstEffects (length after.effects) r
 made-step rules s _ _ _ (calls session replica object op args after r is) = made-call rules s _ after r is
 made-step rules s _ _ _ (already_open session replica decl objects t is) = tt
 made-step rules s _ _ _ (begins session replica decl objects snapshot none less are) = tt
@@ -132,21 +132,21 @@ more-made : (rules : Rules) (s : Machine) (e : Event) (y : List Effect) → Grow
 more-made rules s _ _ (stays e) = omega arith
 more-made rules s _ _ (gains c seen may) = let long = length-append s.effects (effect_made rules s c seen ∷ []) in omega (arith, long)
 
-made-more : (n m : ℕ) (r : Reply) → n ≤ m → IsMade n r → IsMade m r
+made-more : (n m : ℕ) (r : Reply) → n ≤ m → NamesFirstEffects n r → NamesFirstEffects m r
 made-more n m (reply.Ok e) less is = let last = is.1 in (is.0, omega (arith, last, less))
 made-more n m _ less is = tt
 
-pub made-kept : (rules : Rules) (s : Machine) (e : Event) (after : Machine) (r : Reply) (replies : List Reply) → IsStep rules s e after r → All (IsMade (length s.effects)) replies
-    → All (IsMade (length after.effects)) (replies ++ r ∷ [])
+pub made-kept : (rules : Rules) (s : Machine) (e : Event) (after : Machine) (r : Reply) (replies : List Reply) → IsStep rules s e after r → All (NamesFirstEffects (length s.effects)) replies
+    → All (NamesFirstEffects (length after.effects)) (replies ++ r ∷ [])
 made-kept rules s e after r replies is all =
-    All-append (IsMade (length after.effects)) replies (r ∷ [])
+    All-append (NamesFirstEffects (length after.effects)) replies (r ∷ [])
     (λ k d inside. made-more (length s.effects) (length after.effects) (get_or replies k d) (more-made rules s e after.effects (grows rules s e after r is)) (all k d inside))
-    (All-cons (IsMade (length after.effects)) r [] (made-step rules s e after r is) (All-nil (IsMade (length after.effects))))
+    (All-cons (NamesFirstEffects (length after.effects)) r [] (made-step rules s e after r is) (All-nil (NamesFirstEffects (length after.effects))))
 
-member-declared : (n : ℕ) (o : List OpenTxn) (session : SessId) → AreDeclared n o → IsDeclared n (member_of (open_of o session))
+member-declared : (n : ℕ) (o : List OpenTxn) (session : SessId) → AreDeclared n o → IsDeclaredBelow n (member_of (open_of o session))
 member-declared n o session declared = by (open_of o session) refl
   where
-    by : (found : Option OpenTxn) → open_of o session ≡ found → IsDeclared n (member_of found)
+    by : (found : Option OpenTxn) → open_of o session ≡ found → IsDeclaredBelow n (member_of found)
     by None is = tt
     by (Some t) is = declared session t is
 

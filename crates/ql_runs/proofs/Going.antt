@@ -16,12 +16,12 @@ use Rattle.ql_machine.proofs.Counting.{behind-more}
 use Rattle.ql_machine.specs.Steps.{IsStep}
 use Rattle.ql_schedule.specs.Guarantees.{AreFit, FitsEvent, IsSchedule}
 use Rattle.ql_schedule.specs.declared.schedule.Schedule.{Schedule}
-use Rattle.ql_store.specs.Conditions.{HasRoom, IsAnswerable}
-use Rattle.ql_store.specs.Events.{IsInRange}
+use Rattle.ql_store.specs.Conditions.{HasRoom, CanBeAnswered}
+use Rattle.ql_store.specs.Events.{IsEventInRange}
 use Rattle.ql_store.proofs.Going.{Goes, goes-empty, goes-step}
 use Rattle.ql_store.specs.Levels.{HasLevelOfEach, promises_of, uses_of}
 use Rattle.ql_store.specs.State.{AreDeclared}
-use Rattle.ql_runs.specs.Keeping.{FitsSchedule, IsMade}
+use Rattle.ql_runs.specs.Keeping.{FitsSchedule, NamesFirstEffects}
 use Rattle.ql_runs.proofs.Counts.{IsSmall, copies-of, small-empty, small-step}
 use Rattle.ql_runs.proofs.Effects.{call-able, fits-step, made-kept}
 
@@ -53,7 +53,7 @@ pub record IsGoing (p : Program) (levels : LevelLists) (schedule : Schedule) (le
   pub counted : count ≡ replicas_at_end schedule.replicas done
   pub goes : Goes count levels s
   pub fits : All (FitsSchedule p (length schedule.objects) schedule.kinds) s.effects
-  pub answered : All (IsMade (length s.effects)) replies
+  pub answered : All (NamesFirstEffects (length s.effects)) replies
   pub left_fit : AreFit p (length schedule.objects) schedule.kinds count left
 
 module _ (p : Program) (levels : LevelLists) (schedule : Schedule) (each : HasLevelOfEach p levels) (is : IsSchedule p schedule) where
@@ -68,11 +68,11 @@ module _ (p : Program) (levels : LevelLists) (schedule : Schedule) (each : HasLe
     counted = refl;
     goes = goes-empty schedule.replicas levels is.few_replicas;
     fits = All-nil (FitsSchedule p (length schedule.objects) schedule.kinds);
-    answered = All-nil (IsMade 0);
+    answered = All-nil (NamesFirstEffects 0);
     left_fit = is.events;
   }
 
-  in-range : (n : ℕ) (e : Event) → FitsEvent p n (length schedule.objects) schedule.kinds e → IsInRange n levels e
+  in-range : (n : ℕ) (e : Event) → FitsEvent p n (length schedule.objects) schedule.kinds e → IsEventInRange n levels e
   in-range n (Call session replica object op args) fits = let less = fits.is_op in let count = each.ops in (fits.caller.is_replica, omega (arith, less, count))
   in-range n (Begin session replica decl objects) fits = let less = fits.1 in let count = each.txns in (fits.0.is_replica, omega (arith, less, count))
   in-range n (Commit session replica) fits = fits.is_replica
@@ -85,7 +85,7 @@ module _ (p : Program) (levels : LevelLists) (schedule : Schedule) (each : HasLe
   in-range n (Join near copy) fits = fits
 
   answerable : (n : ℕ) (s : Machine) (e : Event) → FitsEvent p n (length schedule.objects) schedule.kinds e → All (FitsSchedule p (length schedule.objects) schedule.kinds) s.effects
-      → IsAnswerable (λ op args effects. IsAble p.types op.0 args effects) s.effects e
+      → CanBeAnswered (λ op args effects. IsAble p.types op.0 args effects) s.effects e
   answerable n s (Call session replica object op args) fits all = λ seen on. call-able p n (length schedule.objects) schedule.kinds s.effects session replica object op args seen fits all on
   answerable n s (Begin session replica decl objects) fits all = tt
   answerable n s (Commit session replica) fits all = tt
@@ -105,9 +105,9 @@ module _ (p : Program) (levels : LevelLists) (schedule : Schedule) (each : HasLe
         let most = is.few_events in
         omega (arith, all, long, most)
 
-    pub going-range : IsInRange (length s.received) held e
+    pub going-range : IsEventInRange (length s.received) held e
     going-range =
-        subst (λ (n : ℕ). IsInRange n held e) (sym going.goes.replicas) (subst (λ (l : LevelLists). IsInRange going.count l e) (sym going.same) (in-range going.count e going.left_fit.0))
+        subst (λ (n : ℕ). IsEventInRange n held e) (sym going.goes.replicas) (subst (λ (l : LevelLists). IsEventInRange going.count l e) (sym going.same) (in-range going.count e going.left_fit.0))
 
     pub going-levels : HasLevelOfEach p held
     going-levels = subst (HasLevelOfEach p) (sym going.same) each
@@ -122,7 +122,7 @@ module _ (p : Program) (levels : LevelLists) (schedule : Schedule) (each : HasLe
       copies = λ m message at. (let few = few-done in let less = copies-of (suc (length going.done)) s.messages m message going.small.copies at in omega (arith, few, less));
     }
 
-    pub going-able : IsAnswerable (λ op args effects. IsAble p.types op.0 args effects) s.effects e
+    pub going-able : CanBeAnswered (λ op args effects. IsAble p.types op.0 args effects) s.effects e
     going-able = answerable going.count s e going.left_fit.0 going.fits
 
     pub going-on : (t : Machine) (held' : LevelLists) (r : Reply) → AnswersFit p.types → held' ≡ held
@@ -176,7 +176,7 @@ module _ (p : Program) (levels : LevelLists) (schedule : Schedule) (each : HasLe
 pub can-go : (p : Program) (levels : LevelLists) (s : Schedule) → HasLevelOfEach p levels → IsSchedule p s → AnswersFit p.types
     → (rules : Rules) → rules.promises ≡ promises_of levels → rules.uses ≡ uses_of p → rules.answer ≡ (λ op args seen. answered_of p.types op.0 args seen)
     → (done left : List Event) (event : Event) (replies : List Reply) (last : Machine) → s.events ≡ done ++ event ∷ left → IsRun rules s.replicas done replies last
-    → IsInRange (length last.received) levels event × HasRoom last × IsAnswerable (λ op args effects. IsAble p.types op.0 args effects) last.effects event
+    → IsEventInRange (length last.received) levels event × HasRoom last × CanBeAnswered (λ op args effects. IsAble p.types op.0 args effects) last.effects event
 can-go p levels s each is fit rules promises uses answer done left event replies last parts run =
     let own : Leads (own_rules p levels) (empty s.replicas) done replies last =
     subst (λ (k : Rules). Leads k (empty s.replicas) done replies last) (sym (same-rules p levels rules (record { promises = promises; uses = uses; answer = answer }))) run in

@@ -22,10 +22,10 @@ use Rattle.ql_store.specs.Levels.{HasLevelOfEach, promises_of, uses_of}
 use Rattle.ql_machine.proofs.Alone.{held-whole}
 use Rattle.ql_machine.proofs.Runs.{kept}
 use Rattle.ql_machine.specs.Runs.{IsRun, stop}
-use Rattle.ql_store.specs.Conditions.{HasRoom, IsAnswerable}
-use Rattle.ql_store.specs.Events.{IsInRange}
+use Rattle.ql_store.specs.Conditions.{HasRoom, CanBeAnswered}
+use Rattle.ql_store.specs.Events.{IsEventInRange}
 use Rattle.ql_runs.proofs.Going.{AreRulesOf, can-go, leads-on, own_rules}
-use Rattle.ql_runs.specs.Watching.{Watches, nothing, more, new_ids}
+use Rattle.ql_runs.specs.Watching.{WatchedRun, nothing, more, new_ids}
 
 -- ---- a step adds one effect at most, and takes none away
 
@@ -105,7 +105,7 @@ pub record IsWatching (p : Program) (levels : LevelLists) (schedule : Schedule) 
   pub levels_are : at ≡ levels
   pub replies : List Reply
   pub run : (rules : Rules) → AreRulesOf p levels rules → IsRun rules schedule.replicas done replies s
-  pub watched : (rules : Rules) → AreRulesOf p levels rules → Watches rules schedule.replicas r done s arrivals
+  pub watched : (rules : Rules) → AreRulesOf p levels rules → WatchedRun rules schedule.replicas r done s arrivals
   pub few : length s.effects ≤ length done
   pub there : AreThere s arrivals
   pub received_is : received ≡ received_at s.received r
@@ -128,7 +128,7 @@ module _ (p : Program) (levels : LevelLists) (schedule : Schedule) (each : HasLe
   }
 
   module _ (fit : AnswersFit p.types) (e : Event) (left : List Event) (at : LevelLists) (s : Machine) (arrivals received : List ℕ) (on : IsWatching p levels schedule r (e ∷ left) at s arrivals received) where
-    pub may_go : IsInRange (length s.received) levels e × HasRoom s × IsAnswerable (λ op args effects. IsAble p.types op.0 args effects) s.effects e
+    pub may_go : IsEventInRange (length s.received) levels e × HasRoom s × CanBeAnswered (λ op args effects. IsAble p.types op.0 args effects) s.effects e
     may_go = can-go p levels schedule each is fit (own_rules p levels) refl refl refl on.done left e on.replies s on.parts (on.run (own_rules p levels) own)
 
     pub goes : (t : Machine) (after_levels : LevelLists) (reply : Reply) (after now : List ℕ) → after_levels ≡ at
@@ -163,9 +163,9 @@ module _ (p : Program) (levels : LevelLists) (schedule : Schedule) (each : HasLe
         }
 
   pub ends : (at : LevelLists) (s : Machine) (arrivals received : List ℕ) → IsWatching p levels schedule r [] at s arrivals received
-      → (rules : Rules) → AreRulesOf p levels rules → Watches rules schedule.replicas r schedule.events s arrivals
+      → (rules : Rules) → AreRulesOf p levels rules → WatchedRun rules schedule.replicas r schedule.events s arrivals
   ends at s arrivals received on rules are =
-      subst (λ (events : List Event). Watches rules schedule.replicas r events s arrivals) (sym (on.parts ∙ append-nil on.done)) (on.watched rules are)
+      subst (λ (events : List Event). WatchedRun rules schedule.replicas r events s arrivals) (sym (on.parts ∙ append-nil on.done)) (on.watched rules are)
 
   pub few : (at : LevelLists) (s : Machine) (arrivals received : List ℕ) → IsWatching p levels schedule r [] at s arrivals received → length s.effects ≤ 4000
   few at s arrivals received on =

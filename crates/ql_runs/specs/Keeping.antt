@@ -12,14 +12,14 @@ use Rattle.ql_machine.specs.declared.reply.Reply.TheVariants as reply
 use Rattle.ql_typing.specs.Operations.{all_ops, op_kinds}
 
 -- a membership is in one of the first declared transactions, if it is in any
-abbrev pub IsDeclared : ℕ → Member → Type 0
-IsDeclared n Alone = Unit {0}
-IsDeclared n (Inside run decl) = decl.0 < n
+abbrev pub IsDeclaredBelow : ℕ → Member → Type 0
+IsDeclaredBelow n Alone = Unit {0}
+IsDeclaredBelow n (Inside run decl) = decl.0 < n
 
 -- the effect that a reply names is one of the first
-abbrev pub IsMade : ℕ → Reply → Type 0
-IsMade n (reply.Ok e) = (1 ≤ e.0) × (e.0 ≤ n)
-IsMade n _ = Unit {0}
+abbrev pub NamesFirstEffects : ℕ → Reply → Type 0
+NamesFirstEffects n (reply.Ok e) = (1 ≤ e.0) × (e.0 ≤ n)
+NamesFirstEffects n _ = Unit {0}
 
 -- an effect is on one of these objects, of an operation of its type and in a declared transaction or none, and carries what that
 -- operation may emit
@@ -28,4 +28,4 @@ pub record FitsSchedule (p : Program) (objects : ℕ) (kinds : List TypeId) (e :
   pub op : e.op.0 < length (all_ops p.types)
   pub type : option_map (λ t. t.0) (slice_get kinds e.object.0) ≡ slice_get (op_kinds p.types) e.op.0
   pub payload : FitsOp (slice_get (all_ops p.types) e.op.0) e.payload
-  pub txn : IsDeclared (length p.txns) e.member
+  pub txn : IsDeclaredBelow (length p.txns) e.member

@@ -14,8 +14,8 @@ new_ids before after = filter (λ a. not (has_id before a)) after
 
 -- After these events the machine is in this state, and these are the effects that a replica received: event by event, those
 -- of one event in ascending order.
-pub data Watches (rules : Rules) (n r : ℕ) : List Event → Machine → List ℕ → Type 0 where
-  nothing : Watches rules n r [] (empty n) []
+pub data WatchedRun (rules : Rules) (n r : ℕ) : List Event → Machine → List ℕ → Type 0 where
+  nothing : WatchedRun rules n r [] (empty n) []
   more : (events : List Event) (s : Machine) (ids : List ℕ) (event : Event) (next : Machine) (reply : Reply)
-      → Watches rules n r events s ids → IsStep rules s event next reply
-      → Watches rules n r (events ++ event ∷ []) next (ids ++ new_ids (received_at s.received r) (received_at next.received r))
+      → WatchedRun rules n r events s ids → IsStep rules s event next reply
+      → WatchedRun rules n r (events ++ event ∷ []) next (ids ++ new_ids (received_at s.received r) (received_at next.received r))

@@ -11,8 +11,8 @@ ghost use Rattle.ql_machine.specs.State.{Machine, empty};
 ghost use Rattle.ql_machine.specs.Steps.{IsStep};
 ghost use Rattle.ql_schedule.specs.Guarantees.{IsSchedule};
 ghost use Rattle.ql_schedule.specs.declared.schedule.Schedule.{Schedule};
-ghost use Rattle.ql_store.specs.Conditions.{HasRoom, IsAnswerable};
-ghost use Rattle.ql_store.specs.Events.{IsInRange};
+ghost use Rattle.ql_store.specs.Conditions.{HasRoom, CanBeAnswered};
+ghost use Rattle.ql_store.specs.Events.{IsEventInRange};
 ghost use Rattle.ql_store.specs.Levels.{HasLevelOfEach, promises_of, uses_of};
 
 /// The law that a schedule can be run to its end: after each number of its events, the next one meets what
@@ -25,8 +25,8 @@ pub fn events_can_be_answered()
         → rules.answer ≡ (λ op args seen. answered_of p.types op.0 args seen)
         → (done left : List Event) (event : Event) (replies : List Reply) (last : Machine)
         → s.events ≡ done ++ event ∷ left → IsRun rules s.replicas done replies last
-        → IsInRange (length last.received) levels event × HasRoom last
-        × IsAnswerable (λ op args effects. IsAble p.types op.0 args effects) last.effects
+        → IsEventInRange (length last.received) levels event × HasRoom last
+        × CanBeAnswered (λ op args effects. IsAble p.types op.0 args effects) last.effects
         event }
 {}
 

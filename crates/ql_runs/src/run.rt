@@ -5,7 +5,7 @@ ghost use Rattle.ql_machine.specs.Runs.{IsRun, replicas_at_end};
 ghost use Rattle.ql_machine.specs.State.{empty};
 ghost use Rattle.ql_schedule.specs.Guarantees.{IsSchedule};
 ghost use Rattle.ql_store.specs.Levels.{HasLevelOfEach, promises_of, uses_of};
-ghost use Rattle.ql_runs.specs.Keeping.{FitsSchedule, IsMade};
+ghost use Rattle.ql_runs.specs.Keeping.{FitsSchedule, NamesFirstEffects};
 
 use ql_base::{Names, NoMemory};
 use ql_eval::TypedFolder;
@@ -62,7 +62,7 @@ pub fn run_schedule<H: Holder>(
         (λ run. All (FitsSchedule typed.now.program (length schedule.objects) schedule.kinds)
         run.store.machine.effects) }
     ensures answered { IfOk result
-        (λ run. All (IsMade (length run.store.machine.effects)) run.replies.items) }
+        (λ run. All (NamesFirstEffects (length run.store.machine.effects)) run.replies.items) }
 {
     let mut store = Store::new(alloc, schedule.replicas, levels)?;
     let mut replies = Vec::new(alloc);
@@ -105,7 +105,7 @@ fn step_through<H: Holder>(
         (All (FitsSchedule typed.now.program (length schedule.objects) schedule.kinds)
         store.new.machine.effects) }
     ensures answered { OnOk result
-        (All (IsMade (length store.new.machine.effects)) replies.new.items) }
+        (All (NamesFirstEffects (length store.new.machine.effects)) replies.new.items) }
 {
     let folder = TypedFolder::new(alloc, typed);
     for event in schedule.events.into_items() {

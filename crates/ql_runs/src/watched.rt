@@ -7,10 +7,10 @@ ghost use Rattle.ql_machine.specs.Rules.{Rules};
 ghost use Rattle.ql_machine.specs.State.{empty, received_at};
 ghost use Rattle.ql_machine.specs.Steps.{IsStep};
 ghost use Rattle.ql_schedule.specs.Guarantees.{IsSchedule};
-ghost use Rattle.ql_store.specs.Conditions.{HasRoom, IsAnswerable};
-ghost use Rattle.ql_store.specs.Events.{IsInRange};
+ghost use Rattle.ql_store.specs.Conditions.{HasRoom, CanBeAnswered};
+ghost use Rattle.ql_store.specs.Events.{IsEventInRange};
 ghost use Rattle.ql_store.specs.Levels.{HasLevelOfEach, promises_of, uses_of};
-ghost use Rattle.ql_runs.specs.Watching.{Watches, new_ids};
+ghost use Rattle.ql_runs.specs.Watching.{WatchedRun, new_ids};
 
 use ql_base::{IdSet, NoMemory, ReplicaId};
 use ql_eval::TypedFolder;
@@ -55,7 +55,7 @@ pub fn watched_run<H: Holder>(
         (λ run. (rules : Rules) → rules.promises ≡ promises_of levels
         → rules.uses ≡ uses_of typed.now.program
         → rules.answer ≡ (λ op args seen. answered_of typed.now.program.types op.0 args seen)
-        → Watches rules schedule.replicas replica.0 schedule.events run.store.machine
+        → WatchedRun rules schedule.replicas replica.0 schedule.events run.store.machine
         run.arrivals.items) }
     ensures there { IfOk result
         (λ run. AllByRecursion
@@ -90,7 +90,7 @@ fn watch<H: Holder>(
         ((rules : Rules) → rules.promises ≡ promises_of store.old.levels
         → rules.uses ≡ uses_of typed.now.program
         → rules.answer ≡ (λ op args seen. answered_of typed.now.program.types op.0 args seen)
-        → Watches rules schedule.replicas replica.0 schedule.events store.new.machine
+        → WatchedRun rules schedule.replicas replica.0 schedule.events store.new.machine
         arrivals.new.items) }
     ensures there { OnOk result
         (AllByRecursion
@@ -131,10 +131,10 @@ fn watch_event<H: Holder>(
     received: &mut IdSet,
     arrivals: &mut Vec<u32>,
 ) -> Result<(), NoMemory>
-    requires range { IsInRange (length store.old.machine.received) store.old.levels event }
+    requires range { IsEventInRange (length store.old.machine.received) store.old.levels event }
     requires levels { HasLevelOfEach typed.now.program store.old.levels }
     requires room { HasRoom store.old.machine }
-    requires able { IsAnswerable
+    requires able { CanBeAnswered
         (λ op args effects. IsAble folder.now.typed.now.program.types op.0 args effects)
         store.old.machine.effects event }
     ensures step { OnOk result

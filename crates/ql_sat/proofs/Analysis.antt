@@ -19,7 +19,7 @@ use Rattle.ql_refute.specs.declared.refutation.Hint.TheVariants.{Given, Earlier}
 use Rattle.ql_refute.specs.declared.refutation.Line.{Line}
 use Rattle.ql_refute.proofs.Steps.{from_reading}
 use Rattle.ql_sat.specs.Answer.{IsNumbered, IsNumberedLine}
-use Rattle.ql_sat.specs.Trail.{assigned_from, IsStep, IsTrail, IsSearching, IsFalseClause, is_seen, NoneSeen, NothingSeen, SeenHaveValues, IsDerived, IsAnalysis}
+use Rattle.ql_sat.specs.Trail.{assigned_from, IsTrailStep, IsTrail, IsSearching, IsFalseClause, is_seen, NoneSeen, NothingSeen, SeenHaveValues, IsDerived, IsAnalysis}
 use Rattle.ql_sat.specs.declared.trail.Step.{Step}
 use Rattle.ql_sat.proofs.GoodLines.{pushed_good}
 use Rattle.ql_sat.proofs.Numbers.{get_of}
@@ -141,7 +141,7 @@ absent_none seen (s ∷ ss) h = (step (is_seen seen s.lit.var) refl, absent_none
     step false e = e
 
 -- the step at a place is forced by its reason's clause
-forced_by : (c : ClauseList) (lines : List Line) (p : Partial) (s : Step) (h : Hint) (d : List Lit) → IsStep c lines p s → s.reason ≡ Some h → hinted c lines h ≡ Some d → reading p d ≡ Forces s.lit
+forced_by : (c : ClauseList) (lines : List Line) (p : Partial) (s : Step) (h : Hint) (d : List Lit) → IsTrailStep c lines p s → s.reason ≡ Some h → hinted c lines h ≡ Some d → reading p d ≡ Forces s.lit
 forced_by c lines p s h d step reason names =
     let why : (e : List Lit) × (hinted c lines h ≡ Some e) × (reading p e ≡ Forces s.lit) = rw reason at step in
     let same : why.0 ≡ d = (let both = sym why.1 ∙ names in cc) in

@@ -10,7 +10,7 @@ use Rattle.ql_refute.specs.Marks.{IsClear, marked, mark_of, value_of_mark}
 use Rattle.ql_refute.specs.Partial.{Partial, nothing, with_true}
 use Rattle.ql_refute.specs.declared.refutation.Line.{Line}
 use Rattle.ql_refute.proofs.Marking.{marked-set, marked-clear, same_refl}
-use Rattle.ql_sat.specs.Trail.{assigned_from, IsStep, IsSearching, trail_number}
+use Rattle.ql_sat.specs.Trail.{assigned_from, IsTrailStep, IsSearching, trail_number}
 use Rattle.ql_sat.specs.declared.trail.Step.{Step}
 use Rattle.ql_sat.specs.Search.{unset_count}
 use Rattle.ql_sat.proofs.Measure.{number_push}
@@ -18,14 +18,14 @@ use Rattle.ql_sat.proofs.Unset.{unset_count-one_less, unset_count-one_more, unse
 use Rattle.ql_sat.proofs.Trails.{assigned-append, trail-push, trail-front, trail-back, fresh}
 
 -- one more step
-pub searching_push : (c : ClauseList) (lines : List Line) (trail : List Step) (marks : List ℕ) (s : Step) → IsSearching c lines trail marks → s.lit.var < length marks → IsStep c lines (marked marks) s → IsSearching c lines (trail ++ s ∷ []) (slice_set marks s.lit.var (mark_of s.lit.positive))
+pub searching_push : (c : ClauseList) (lines : List Line) (trail : List Step) (marks : List ℕ) (s : Step) → IsSearching c lines trail marks → s.lit.var < length marks → IsTrailStep c lines (marked marks) s → IsSearching c lines (trail ++ s ∷ []) (slice_set marks s.lit.var (mark_of s.lit.positive))
 searching_push c lines trail marks s h below step = record {
   good = h.good;
   in_range = h.in_range;
   numbered = h.numbered;
   few = h.few;
   variables = h.variables;
-  steps = trail-push c lines nothing trail s h.steps (subst (λ (p : Partial). IsStep c lines p s) h.values step);
+  steps = trail-push c lines nothing trail s h.steps (subst (λ (p : Partial). IsTrailStep c lines p s) h.values step);
   values = marked-set marks s.lit below ∙ ap (λ (p : Partial). with_true p s.lit) h.values ∙ sym (assigned-append nothing trail (s ∷ []));
   room = length-set marks s.lit.var (mark_of s.lit.positive) ∙ h.room;
   counted =
@@ -36,7 +36,7 @@ searching_push c lines trail marks s h below step = record {
 }
 
 -- and makes the trail greater
-pub number_step : (c : ClauseList) (lines : List Line) (trail : List Step) (marks : List ℕ) (s : Step) → IsSearching c lines trail marks → s.lit.var < length marks → IsStep c lines (marked marks) s → trail_number (c.variables + 1) trail < trail_number (c.variables + 1) (trail ++ s ∷ [])
+pub number_step : (c : ClauseList) (lines : List Line) (trail : List Step) (marks : List ℕ) (s : Step) → IsSearching c lines trail marks → s.lit.var < length marks → IsTrailStep c lines (marked marks) s → trail_number (c.variables + 1) trail < trail_number (c.variables + 1) (trail ++ s ∷ [])
 number_step c lines trail marks s h below step =
     let fewer : unset_count (slice_set marks s.lit.var (mark_of s.lit.positive)) + 1 ≡ unset_count marks = unset_count-one_less marks s.lit below (rw (fresh c lines (marked marks) s step) refl) in
     number_push (c.variables + 1) trail s (omega (arith, fewer, h.counted, h.room))

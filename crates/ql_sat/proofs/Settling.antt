@@ -7,7 +7,7 @@ use Rattle.ql_cnf.specs.Satisfaction.{ClauseList}
 use Rattle.ql_cnf.specs.declared.lit.Lit.{Lit}
 use Rattle.ql_refute.specs.Partial.{Partial, with_true, is_value, is_open}
 use Rattle.ql_refute.specs.declared.refutation.Line.{Line}
-use Rattle.ql_sat.specs.Settled.{Gives, IsSettled, AtDecisions}
+use Rattle.ql_sat.specs.Settled.{Forces, IsSettled, AtDecisions}
 use Rattle.ql_sat.specs.Trail.{assigned_from, IsTrail}
 use Rattle.ql_sat.specs.Watch.{index_of, replaced_literal, replaced}
 use Rattle.ql_sat.specs.declared.trail.Step.{Step}
@@ -67,14 +67,14 @@ pub settled_grows : (p r t : Partial) (w : Pair) → Grows r t → IsSettled p r
 settled_grows p r t w grow h = ((λ f. grow w.second.var w.second.positive (h.0 f)), (λ f. grow w.first.var w.first.positive (h.1 f)))
 
 -- a watch moved to a literal that isn't false
-gives_moved : (p r t : Partial) (a b x to : Lit) → Grows p t → Grows r t → IsFalse t x → (IsFalse t to → ⊥) → Gives p r a b → Gives p r (replaced_literal a x to) (replaced_literal b x to)
+gives_moved : (p r t : Partial) (a b x to : Lit) → Grows p t → Grows r t → IsFalse t x → (IsFalse t to → ⊥) → Forces p r a b → Forces p r (replaced_literal a x to) (replaced_literal b x to)
 gives_moved p r t a b x to grow_p grow_r closed opened gives = first (index_of a == index_of x) refl
   where
     second : (s : Bool) → (index_of b == index_of x) ≡ s → IsTrueIn r b → IsTrueIn r (cond s to b)
     second true e h = absurd (true_or_false t b (grow_r b.var b.positive h) (false_at_index t b x (is_same (index_of b) (index_of x) e) closed))
     second false e h = h
 
-    first : (s : Bool) → (index_of a == index_of x) ≡ s → Gives p r (cond s to a) (replaced_literal b x to)
+    first : (s : Bool) → (index_of a == index_of x) ≡ s → Forces p r (cond s to a) (replaced_literal b x to)
     first true e f = absurd (opened (grow_p to.var (not to.positive) f))
     first false e f = second (index_of b == index_of x) refl (gives f)
 
@@ -100,7 +100,7 @@ index_of_same : (x y : Lit) → x.var ≡ y.var → x.positive ≡ y.positive �
 index_of_same x y e f = rw (e, f) refl
 
 -- one literal more that is false, which the clause doesn't watch
-gives_next : (p r : Partial) (a b y : Lit) → (index_of a ≡ index_of (negated y) → ⊥) → Gives p r a b → Gives (with_true p y) r a b
+gives_next : (p r : Partial) (a b y : Lit) → (index_of a ≡ index_of (negated y) → ⊥) → Forces p r a b → Forces (with_true p y) r a b
 gives_next p r a b y other gives f = step (a.var == y.var) refl f
   where
     step : (s : Bool) → (a.var == y.var) ≡ s → cond s (Some y.positive) (p a.var) ≡ Some (not a.positive) → IsTrueIn r b

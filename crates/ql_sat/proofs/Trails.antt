@@ -16,7 +16,7 @@ use Rattle.ql_refute.specs.declared.refutation.Hint.{Hint}
 use Rattle.ql_refute.specs.declared.refutation.Line.{Line}
 use Rattle.ql_refute.proofs.Laws.{names_more}
 use Rattle.ql_refute.proofs.Steps.{from_reading}
-use Rattle.ql_sat.specs.Trail.{assigned_from, IsStep, IsTrail, is_seen, AllUnset, IsDerived}
+use Rattle.ql_sat.specs.Trail.{assigned_from, IsTrailStep, IsTrail, is_seen, AllUnset, IsDerived}
 use Rattle.ql_sat.specs.declared.trail.Step.{Step}
 use Rattle.ql_sat.proofs.Unset.{forced_unset}
 
@@ -31,7 +31,7 @@ none_of None h = refl
 none_of (Some b) h = absurd (cc)
 
 -- a step sets a variable that was unset
-pub fresh : (c : ClauseList) (lines : List Line) (p : Partial) (s : Step) → IsStep c lines p s → p s.lit.var ≡ None
+pub fresh : (c : ClauseList) (lines : List Line) (p : Partial) (s : Step) → IsTrailStep c lines p s → p s.lit.var ≡ None
 fresh c lines p s h = by_reason s.reason h
   where
     by_reason : (o : Option Hint) → MatchOption o (p s.lit.var ≡ None) (λ h. (d : List Lit) × (hinted c lines h ≡ Some d) × (reading p d ≡ Forces s.lit)) → p s.lit.var ≡ None
@@ -42,7 +42,7 @@ pub set_here : (p : Partial) (x : Lit) → with_true p x x.var ≡ Some x.positi
 set_here p x = rw (same_refl x.var) refl
 
 -- a value stays
-kept : (c : ClauseList) (lines : List Line) (p : Partial) (s : Step) (v : ℕ) (b : Bool) → IsStep c lines p s → p v ≡ Some b → with_true p s.lit v ≡ Some b
+kept : (c : ClauseList) (lines : List Line) (p : Partial) (s : Step) (v : ℕ) (b : Bool) → IsTrailStep c lines p s → p v ≡ Some b → with_true p s.lit v ≡ Some b
 kept c lines p s v b h e = step (v == s.lit.var) refl
   where
     step : (t : Bool) → (v == s.lit.var) ≡ t → cond t (Some s.lit.positive) (p v) ≡ Some b
@@ -95,7 +95,7 @@ pub trail-front : (c : ClauseList) (lines : List Line) (p : Partial) (xs ys : Li
 trail-front c lines p [] ys h = tt
 trail-front c lines p (x ∷ xs) ys h = (h.0, trail-front c lines (with_true p x.lit) xs ys h.1)
 
-pub trail-push : (c : ClauseList) (lines : List Line) (p : Partial) (xs : List Step) (s : Step) → IsTrail c lines p xs → IsStep c lines (assigned_from p xs) s → IsTrail c lines p (xs ++ s ∷ [])
+pub trail-push : (c : ClauseList) (lines : List Line) (p : Partial) (xs : List Step) (s : Step) → IsTrail c lines p xs → IsTrailStep c lines (assigned_from p xs) s → IsTrail c lines p (xs ++ s ∷ [])
 trail-push c lines p [] s h here = (here, tt)
 trail-push c lines p (x ∷ xs) s h here = (h.0, trail-push c lines (with_true p x.lit) xs s h.1 here)
 

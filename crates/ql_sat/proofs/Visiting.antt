@@ -13,7 +13,7 @@ use Rattle.ql_refute.specs.Partial.{Partial, nothing, with_true, is_open}
 use Rattle.ql_refute.specs.declared.refutation.Line.{Line}
 use Rattle.ql_sat.specs.Settled.{IsSettled, AreSettled, WatchesOwn, IsGuarded, IsWatched, values_to, IsSettledTo, falsified_at, IsWaiting, IsVisiting}
 use Rattle.ql_sat.specs.Trail.{assigned_from, IsTrail, IsSearching, IsLonger}
-use Rattle.ql_sat.specs.Watch.{count_of, index_of, IsListed, AreListed, IsThere, pair_at, beside, replaced}
+use Rattle.ql_sat.specs.Watch.{count_of, index_of, IsListed, AreListed, IsListedAt, pair_at, beside, replaced}
 use Rattle.ql_sat.specs.declared.trail.Step.{Step}
 use Rattle.ql_sat.specs.declared.trail.Visit.{Visit}
 use Rattle.ql_sat.specs.declared.trail.Visit.TheVariants.{Conflict, Forced, Nothing}
@@ -254,7 +254,7 @@ visiting_longer c all lines trail now lists pairs place at n x Conflict steps lo
 visiting_longer c all lines trail now lists pairs place at n x Nothing steps longer h = subst (λ (t : List Step). IsVisiting all t lists pairs place at x) (sym longer) h
 
 -- a clause of which a watched literal is true needs no more
-pub visiting_true : (c all : ClauseList) (lines : List Line) (trail : List Step) (lists : List (List ℕ)) (pairs : List Pair) (place at clause : ℕ) (x other : Lit) → IsTrail c lines nothing trail → IsThere lists x at clause → (clause < length pairs → other ≡ beside (pair_at pairs clause) x) → (clause < length all.clauses → IsTrueIn (assigned_from nothing trail) other) → IsVisiting all trail lists pairs place at x → IsVisiting all trail lists pairs place (at + 1) x
+pub visiting_true : (c all : ClauseList) (lines : List Line) (trail : List Step) (lists : List (List ℕ)) (pairs : List Pair) (place at clause : ℕ) (x other : Lit) → IsTrail c lines nothing trail → IsListedAt lists x at clause → (clause < length pairs → other ≡ beside (pair_at pairs clause) x) → (clause < length all.clauses → IsTrueIn (assigned_from nothing trail) other) → IsVisiting all trail lists pairs place at x → IsVisiting all trail lists pairs place (at + 1) x
 visiting_true c all lines trail lists pairs place at clause x other steps there watched holds h =
     visiting_next all trail lists pairs place at clause x there.0 there.1 (λ given. settled_true (values_to trail (place + 1)) (assigned_from nothing trail) (pair_at pairs clause) (values_grow c lines trail (place + 1) steps) (either given)) h
   where

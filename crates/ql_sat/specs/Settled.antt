@@ -18,12 +18,12 @@ abbrev pub with_lines : ClauseList → List Line → ClauseList
 with_lines c lines = record { variables = c.variables; clauses = c.clauses ++ map (λ line. line.clause) lines }
 
 -- where x is false in p, y is true in r
-abbrev pub Gives : Partial → Partial → Lit → Lit → Type 0
-Gives p r x y = p x.var ≡ Some (not x.positive) → r y.var ≡ Some y.positive
+abbrev pub Forces : Partial → Partial → Lit → Lit → Type 0
+Forces p r x y = p x.var ≡ Some (not x.positive) → r y.var ≡ Some y.positive
 
 -- where one of the two watched literals is false in p, the other is true in r
 abbrev pub IsSettled : Partial → Partial → Pair → Type 0
-IsSettled p r w = Gives p r w.first w.second × Gives p r w.second w.first
+IsSettled p r w = Forces p r w.first w.second × Forces p r w.second w.first
 
 -- the same of each of the first n clauses
 abbrev pub AreSettled : ℕ → Partial → Partial → List Pair → Type 0

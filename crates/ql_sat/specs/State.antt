@@ -20,8 +20,8 @@ abbrev pub all_clauses : Known → ClauseList
 all_clauses k = with_lines k.given.now k.lines.now
 
 -- what holds of the trail between the steps of a search
-abbrev pub IsSound : Known → Trail → Type 0
-IsSound k t = IsSearching k.given.now k.lines.now t.steps.items t.marks.items
+abbrev pub IsSoundTrail : Known → Trail → Type 0
+IsSoundTrail k t = IsSearching k.given.now k.lines.now t.steps.items t.marks.items
 
 -- the clause of the hint is false
 abbrev pub IsConflict : Known → Trail → Hint → Type 0
@@ -40,8 +40,8 @@ abbrev pub AreVisited : Known → Trail → Watches → ℕ → ℕ → Lit → 
 AreVisited k t w place at falsified = IsVisiting (all_clauses k) t.steps.items w.lists.items w.pairs.items place at falsified
 
 -- what a visit of the watchers of the literal at an index of the trail guarantees
-pub record IsVisited (k : Known) (place : ℕ) (before after : Trail) (w : Watches) (found : Option Hint) : Type 0 where
-  pub sound : IsSound k after
+pub record IsVisitOf (k : Known) (place : ℕ) (before after : Trail) (w : Watches) (found : Option Hint) : Type 0 where
+  pub sound : IsSoundTrail k after
   pub guarded : AreGuarded k after w
   pub watched : IfNone found (AreWatched k after w (place + 1))
   pub conflict : IfSome found (IsConflict k after)
@@ -49,7 +49,7 @@ pub record IsVisited (k : Known) (place : ℕ) (before after : Trail) (w : Watch
 
 -- what a propagation guarantees: it found a clause that is false, or nothing is left
 pub record IsPropagated (k : Known) (before after : Trail) (g : Guide) (found : Option Hint) : Type 0 where
-  pub sound : IsSound k after
+  pub sound : IsSoundTrail k after
   pub guarded : AreGuarded k after g.watches
   pub watched : IfNone found (AreWatched k after g.watches g.queue.done)
   pub all : IfNone found (g.queue.done ≡ length after.steps.items)

@@ -25,12 +25,12 @@ assigned_from p [] = p
 assigned_from p (s ∷ ss) = assigned_from (with_true p s.lit) ss
 
 -- a decision sets an unset variable; another step is forced by the clause of its reason
-abbrev pub IsStep : ClauseList → List Line → Partial → Step → Type 0
-IsStep c lines p s = MatchOption s.reason (p s.lit.var ≡ None) (λ h. (d : List Lit) × (hinted c lines h ≡ Some d) × (reading p d ≡ Forces s.lit))
+abbrev pub IsTrailStep : ClauseList → List Line → Partial → Step → Type 0
+IsTrailStep c lines p s = MatchOption s.reason (p s.lit.var ≡ None) (λ h. (d : List Lit) × (hinted c lines h ≡ Some d) × (reading p d ≡ Forces s.lit))
 
 abbrev pub IsTrail : ClauseList → List Line → Partial → List Step → Type 0
 IsTrail c lines p [] = Unit {0}
-IsTrail c lines p (s ∷ ss) = IsStep c lines p s × IsTrail c lines (with_true p s.lit) ss
+IsTrail c lines p (s ∷ ss) = IsTrailStep c lines p s × IsTrail c lines (with_true p s.lit) ss
 
 -- what holds between the steps of a search
 pub record IsSearching (c : ClauseList) (lines : List Line) (trail : List Step) (marks : List ℕ) : Type 0 where

@@ -26,8 +26,8 @@ abbrev pub AreListed : List (List ℕ) → List Pair → Type 0
 AreListed lists pairs = (k : ℕ) → k < length pairs → IsListed lists (pair_at pairs k).first k × IsListed lists (pair_at pairs k).second k
 
 -- the clause is at an index of the literal's list
-abbrev pub IsThere : List (List ℕ) → Lit → ℕ → ℕ → Type 0
-IsThere lists x i k = (i < length (slice_index_or lists (index_of x) [])) × (k ≡ slice_index (slice_index_or lists (index_of x) []) i)
+abbrev pub IsListedAt : List (List ℕ) → Lit → ℕ → ℕ → Type 0
+IsListedAt lists x i k = (i < length (slice_index_or lists (index_of x) [])) × (k ≡ slice_index (slice_index_or lists (index_of x) []) i)
 
 -- the watched literal beside this one
 abbrev pub beside : Pair → Lit → Lit

@@ -8,7 +8,7 @@ ghost use Rattle.ql_refute.specs.Partial.{reading};
 ghost use Rattle.ql_refute.specs.Verdict.{hinted};
 ghost use Rattle.ql_refute.specs.declared.marks.Reading.{Reading};
 ghost use Rattle.ql_sat.specs.Settled.{IsGuarded, IsLastSeen, WatchesForced, with_lines};
-ghost use Rattle.ql_sat.specs.State.{IsAnalyzed, IsConflict, IsSound, IsSoundSearch, IsTaken};
+ghost use Rattle.ql_sat.specs.State.{IsAnalyzed, IsConflict, IsSoundTrail, IsSoundSearch, IsTaken};
 ghost use Rattle.ql_sat.specs.Trail.{IsAsserting, IsFalseClause, IsFirstAsserting, IsFirstFrom, IsLonger, IsOneSeen, IsUnitClause, NoneSeen, NothingSeen, is_seen, learned_to};
 ghost use Rattle.ql_sat.specs.declared.trail.Trail.{Trail};
 ghost use Rattle.ql_sat.specs.declared.watches.Pair.{Pair};
@@ -131,10 +131,10 @@ pub(crate) fn learn(
 
 // Reads the learned clause where it forces a literal.
 fn read_learned(known: Known, number: u64, trail: &mut Trail) -> Result<(), NoMemory>
-    requires sound { IsSound known trail.old }
+    requires sound { IsSoundTrail known trail.old }
     requires unit { IsUnitClause known.given.now known.lines.now (Hint.Earlier number)
         trail.old.marks.items }
-    ensures sound { OnOk result (IsSound known.entry trail.new) }
+    ensures sound { OnOk result (IsSoundTrail known.entry trail.new) }
     ensures forced { OnOk result
         (IsLonger Visit.Forced (known.entry.given.now.variables + 1) trail.old.steps.items
         trail.new.steps.items) }
@@ -204,7 +204,7 @@ fn analyze(
     analysis: &mut Analysis,
     order: &mut Order,
 ) -> Result<Option<usize>, NoMemory>
-    requires sound { IsSound known trail.now }
+    requires sound { IsSoundTrail known trail.now }
     requires seen { length analysis.old.seen.items ≡ known.given.now.variables + 1 }
     requires conflict { IsConflict known trail.now conflict }
     ensures analyzed { OnOk result ((i : ℕ) × IsAnalyzed known.entry trail.now i analysis.new) }
@@ -241,7 +241,7 @@ fn begin(
     requires seen { length analysis.old.seen.items ≡ known.given.now.variables + 1 }
     requires conflict { is_some (hinted known.given.now known.lines.now conflict) ≡ true }
     ensures analyzed { OnOk result
-        ((trail : Trail) → IsSound known.entry trail → IsConflict known.entry trail conflict
+        ((trail : Trail) → IsSoundTrail known.entry trail → IsConflict known.entry trail conflict
         → IsAnalyzed known.entry trail (length trail.steps.items) analysis.new) }
     ensures seen { OnOk result
         (length analysis.new.seen.items ≡ known.entry.given.now.variables + 1) }
@@ -268,7 +268,7 @@ fn resolve(
     requires reason { MatchOption step.reason ⊥
         (λ reason. is_some (hinted known.given.now known.lines.now reason) ≡ true) }
     ensures analyzed { OnOk result
-        ((trail : Trail) (at : ℕ) → IsSound known.entry trail
+        ((trail : Trail) (at : ℕ) → IsSoundTrail known.entry trail
         → slice_get trail.steps.items at ≡ Some step
         → IsAnalyzed known.entry trail (at + 1) analysis.old
         → IsAnalyzed known.entry trail at analysis.new) }

@@ -5,9 +5,9 @@ ghost use Rattle.ql_cnf.specs.declared.lit.Lit.{Lit};
 ghost use Rattle.ql_refute.specs.Marks.{LinesInRange, marked};
 ghost use Rattle.ql_refute.specs.Verdict.{hinted};
 ghost use Rattle.ql_sat.specs.Settled.{IsLook};
-ghost use Rattle.ql_sat.specs.State.{AreGuarded, AreVisited, AreWatched, IsConflict, IsPropagated, IsSound, IsVisited, all_clauses};
+ghost use Rattle.ql_sat.specs.State.{AreGuarded, AreVisited, AreWatched, IsConflict, IsPropagated, IsSoundTrail, IsVisitOf, all_clauses};
 ghost use Rattle.ql_sat.specs.Trail.{trail_number};
-ghost use Rattle.ql_sat.specs.Watch.{IsAway, IsThere, index_of};
+ghost use Rattle.ql_sat.specs.Watch.{IsAway, IsListedAt, index_of};
 ghost use Rattle.ql_sat.specs.declared.watches.Watches.{Watches};
 
 use crate::guide::Guide;
@@ -34,7 +34,7 @@ pub(crate) fn propagate(
     trail: &mut Trail,
     guide: &mut Guide,
 ) -> Result<Option<Hint>, NoMemory>
-    requires sound { IsSound known trail.old }
+    requires sound { IsSoundTrail known trail.old }
     requires watched { AreWatched known trail.old guide.old.watches guide.old.queue.done }
     ensures { IfOk result (IsPropagated known.entry trail.old trail.new guide.new) }
 {
@@ -54,8 +54,8 @@ pub(crate) fn propagate(
 
 // Reads the given clauses of fewer than two literals, each once.
 fn read_units(known: Known, trail: &mut Trail, queue: &mut Queue) -> Result<Option<Hint>, NoMemory>
-    requires { IsSound known trail.old }
-    ensures sound { OnOk result (IsSound known.entry trail.new) }
+    requires { IsSoundTrail known trail.old }
+    ensures sound { OnOk result (IsSoundTrail known.entry trail.new) }
     ensures watched { OnOk result
         ((watches : Watches) (done : ℕ) → AreWatched known.entry trail.old watches done
         → AreWatched known.entry trail.new watches done) }
@@ -81,10 +81,10 @@ fn visit_watchers(
     trail: &mut Trail,
     watches: &mut Watches,
 ) -> Result<Option<Hint>, NoMemory>
-    requires sound { IsSound known trail.old }
+    requires sound { IsSoundTrail known trail.old }
     requires within { place < length trail.old.steps.items }
     requires watched { AreWatched known trail.old watches.old place }
-    ensures { IfOk result (IsVisited known.entry place trail.old trail.new watches.new) }
+    ensures { IfOk result (IsVisitOf known.entry place trail.old trail.new watches.new) }
 {
     let falsified = trail.steps[place].lit.negated();
     let mut at = 0;
@@ -111,13 +111,13 @@ fn visit(
     trail: &mut Trail,
     watches: &mut Watches,
 ) -> Result<Option<usize>, NoMemory>
-    requires sound { IsSound known trail.old }
-    requires there { IsThere watches.old.lists.items watcher.falsified watcher.at watcher.clause }
+    requires sound { IsSoundTrail known trail.old }
+    requires there { IsListedAt watches.old.lists.items watcher.falsified watcher.at watcher.clause }
     requires fits { watcher.at + 1 < 2 ^ 64 }
     requires hint { watcher.clause < length (all_clauses known).clauses
         → hinted known.given.now known.lines.now watcher.hint
         ≡ Some (slice_index_or (all_clauses known).clauses watcher.clause []) }
-    ensures sound { OnOk result (IsSound known.entry trail.new) }
+    ensures sound { OnOk result (IsSoundTrail known.entry trail.new) }
     ensures visited { IfOk result
         (λ next. (place : ℕ) → AreVisited known.entry trail.old watches.old place watcher.at
         watcher.falsified → MatchOption next (AreGuarded known.entry trail.new watches.new)

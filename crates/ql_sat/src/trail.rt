@@ -6,7 +6,7 @@ ghost use Rattle.ql_refute.specs.Marks.{IsClear, mark_of, marked};
 ghost use Rattle.ql_refute.specs.Partial.{reading};
 ghost use Rattle.ql_refute.specs.Verdict.{hinted};
 ghost use Rattle.ql_refute.specs.declared.refutation.Line.{Line};
-ghost use Rattle.ql_sat.specs.State.{IsConflict, IsSound};
+ghost use Rattle.ql_sat.specs.State.{IsConflict, IsSoundTrail};
 ghost use Rattle.ql_sat.specs.Trail.{IsLonger, IsSearching, trail_number, visit_of};
 
 use crate::known::Known;
@@ -86,8 +86,8 @@ pub(crate) fn propagate_clause(
     hint: Hint,
     trail: &mut Trail,
 ) -> Result<Visit, NoMemory>
-    requires { IsSound known trail.old }
-    ensures sound { OnOk result (IsSound known.entry trail.new) }
+    requires { IsSoundTrail known trail.old }
+    ensures sound { OnOk result (IsSoundTrail known.entry trail.new) }
     ensures conflict { IfOk result
         (λ visit. visit ≡ Visit.Conflict → IsConflict known.entry trail.new hint) }
     ensures visit { IfOk result

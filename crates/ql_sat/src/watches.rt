@@ -6,7 +6,7 @@ ghost use Rattle.ql_cnf.specs.declared.lit.Lit.{Lit};
 ghost use Rattle.ql_refute.specs.Marks.{marked};
 ghost use Rattle.ql_refute.specs.Partial.{is_open, is_value};
 ghost use Rattle.ql_sat.specs.Settled.{IsGuarded, IsLook, WatchesOwn};
-ghost use Rattle.ql_sat.specs.Watch.{AreListed, IsAway, IsListed, IsMoved, IsThere, beside, count_of, index_of, pair_at, replaced, replaced_literal};
+ghost use Rattle.ql_sat.specs.Watch.{AreListed, IsAway, IsListed, IsMoved, IsListedAt, beside, count_of, index_of, pair_at, replaced, replaced_literal};
 
 use crate::watchers::Watchers;
 use ql_base::NoMemory;
@@ -88,7 +88,7 @@ impl Watches {
     pub fn watcher(&self, lit: Lit, at: usize) -> Option<usize>
         ensures none { IfNone result
             (length (slice_index_or self.now.lists.items (index_of lit) []) ≤ at) }
-        ensures there { IfSome result (λ clause. IsThere self.now.lists.items lit at clause) }
+        ensures there { IfSome result (λ clause. IsListedAt self.now.lists.items lit at clause) }
         ensures fits { IfSome result (λ clause. at + 1 < 2 ^ 64) }
     {
         let from = index(lit);
@@ -118,7 +118,7 @@ impl Watches {
     // Makes the clause at an index of a literal's list watch another literal instead.
     pub fn change(&mut self, from: Lit, at: usize, clause: usize, to: Lit) -> Result<(), NoMemory>
         requires other { index_of to ≡ index_of from → ⊥ }
-        requires there { IsThere self.old.lists.items from at clause }
+        requires there { IsListedAt self.old.lists.items from at clause }
         ensures shorter { OnOk result
             (length (slice_index_or self.new.lists.items (index_of from) []) + 1
             ≡ length (slice_index_or self.old.lists.items (index_of from) [])) }

@@ -44,7 +44,7 @@ use Rattle.ql_schedule.specs.Judging.{event_faults, fit_op, has_repeat, is_calle
 use Rattle.ql_schedule.specs.Makings.{declared_from, event_of, id_of, replicas_with}
 use Rattle.ql_schedule.specs.Numbers.{IsNumber}
 use Rattle.ql_schedule.specs.Rules.{lowest}
-use Rattle.ql_schedule.specs.Spelled.{IsFound, IsSpelledEvent, IsSpelledValue}
+use Rattle.ql_schedule.specs.Spelled.{IsFoundByName, IsSpelledEvent, IsSpelledValue}
 use Rattle.ql_schedule.specs.Texts.{event_fields, name_at}
 use Rattle.ql_schedule.proofs.ArgumentLaws.{scalar_value_text}
 
@@ -78,7 +78,7 @@ numbers_again : (ns : List ℕ) → AllByRecursion (λ g. g < 16) ns → AreNumb
 numbers_again [] h = tt
 numbers_again (n ∷ ns) h = (small n (omega (arith, h.0)), numbers_again ns h.1)
 
-names_again : (objects : List (List ℕ)) (ids : List ℕ) → AllByRecursion (IsFound objects) ids → AllByRecursion IsName (map (name_at objects) ids)
+names_again : (objects : List (List ℕ)) (ids : List ℕ) → AllByRecursion (IsFoundByName objects) ids → AllByRecursion IsName (map (name_at objects) ids)
 names_again objects [] h = tt
 names_again objects (o ∷ ids) h = (h.0.0, names_again objects ids h.1)
 
@@ -239,12 +239,12 @@ same_again a b t at e =
     let same : nat_eq t.0 t.0 ≡ true = grind (arith, nat_tests) in
     rw (at, other) same
 
-all_known : (objects : List (List ℕ)) (ids : List ℕ) → AllByRecursion (IsFound objects) ids → list_any (λ w. is_none (place objects w)) (map (name_at objects) ids) ≡ false
+all_known : (objects : List (List ℕ)) (ids : List ℕ) → AllByRecursion (IsFoundByName objects) ids → list_any (λ w. is_none (place objects w)) (map (name_at objects) ids) ≡ false
 all_known objects [] h = refl
 all_known objects (o ∷ ids) h = rw (h.0.1, all_known objects ids h.1) refl
 
 -- names of ascending numbers aren't repeated
-other_name : (objects : List (List ℕ)) (o : ℕ) (ids : List ℕ) → IsFound objects o → AllByRecursion (IsFound objects) ids → IsBelowAll o ids
+other_name : (objects : List (List ℕ)) (o : ℕ) (ids : List ℕ) → IsFoundByName objects o → AllByRecursion (IsFoundByName objects) ids → IsBelowAll o ids
     → list_any (bytes_eq (name_at objects o)) (map (name_at objects) ids) ≡ false
 other_name objects o [] found h below = refl
 other_name objects o (q ∷ ids) found h below =
@@ -258,7 +258,7 @@ other_name objects o (q ∷ ids) found h below =
     ] refl in
     rw (differs, other_name objects o ids found h.1 below.1) refl
 
-no_repeat : (objects : List (List ℕ)) (ids : List ℕ) → AllByRecursion (IsFound objects) ids → IsAscending ids → has_repeat (map (name_at objects) ids) ≡ false
+no_repeat : (objects : List (List ℕ)) (ids : List ℕ) → AllByRecursion (IsFoundByName objects) ids → IsAscending ids → has_repeat (map (name_at objects) ids) ≡ false
 unfolding has_repeat
 no_repeat objects [] h up = refl
 no_repeat objects (o ∷ ids) h up = rw (other_name objects o ids h.0 h.1 up.0, no_repeat objects ids h.1 up.1) refl
@@ -330,7 +330,7 @@ at_end : (pre : List ℕ) (o : ℕ) (more : List ℕ) → IsAscending (pre ++ o 
 at_end [] o more h = refl
 at_end (q ∷ pre) o more h = with_id-later q pre o (below_last q pre o more h.0) ∙ ap (λ r. q ∷ r) (at_end pre o more h.1)
 
-declared_again : (objects : List (List ℕ)) (pre ids : List ℕ) → AllByRecursion (IsFound objects) ids → IsAscending (pre ++ ids) → declared_from objects pre (map (name_at objects) ids) ≡ pre ++ ids
+declared_again : (objects : List (List ℕ)) (pre ids : List ℕ) → AllByRecursion (IsFoundByName objects) ids → IsAscending (pre ++ ids) → declared_from objects pre (map (name_at objects) ids) ≡ pre ++ ids
 unfolding declared_from
 declared_again objects pre [] h up = sym (append-nil pre)
 declared_again objects pre (o ∷ ids) h up =

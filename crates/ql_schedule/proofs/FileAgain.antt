@@ -32,7 +32,7 @@ use Rattle.ql_schedule.specs.Headers.{IsVersion}
 use Rattle.ql_schedule.specs.Guarantees.{AreFit, FitsEvent, IsOfVersion}
 use Rattle.ql_schedule.specs.Makings.{event_of, of_replicas}
 use Rattle.ql_schedule.specs.Outcomes.{Closes, ExtendsSchedule}
-use Rattle.ql_schedule.specs.Spelled.{AreNew, IsFound, IsSpelled, IsSpelledEvent, IsSpelledType, IsSpelledValue}
+use Rattle.ql_schedule.specs.Spelled.{AreNew, IsFoundByName, IsSpelled, IsSpelledEvent, IsSpelledType, IsSpelledValue}
 use Rattle.ql_schedule.specs.Texts.{event_fields, name_at, object_fields, object_lines, schedule_lines}
 use Rattle.ql_schedule.proofs.ArgumentLaws.{scalar_value_text}
 use Rattle.ql_schedule.proofs.EventsAgain.{counted_again, few_behind, in_version, is_event, lawful, line_of, made_again}
@@ -191,7 +191,7 @@ module _ (p : Program) (s : Schedule) where
             number replica.0 (omega (arith, h.0.is_replica, few)),
             (
               name_part (txn_name p decl.0) k.is_txn,
-              all_parts (IsFound s.objects) (name_at s.objects) (λ o f. name_part (name_at s.objects o) f.0) ids k.are_objects,
+              all_parts (IsFoundByName s.objects) (name_at s.objects) (λ o f. name_part (name_at s.objects o) f.0) ids k.are_objects,
             ),
           ),
         ),

@@ -23,7 +23,7 @@ use Rattle.ql_schedule.specs.Judging.{declaration_faults}
 use Rattle.ql_schedule.specs.Outcomes.{Closes, after_declaration}
 use Rattle.ql_schedule.specs.Parts.{parts_of}
 use Rattle.ql_schedule.specs.Rules.{lowest}
-use Rattle.ql_schedule.specs.Spelled.{AreNew, IsFound}
+use Rattle.ql_schedule.specs.Spelled.{AreNew, IsFoundByName}
 use Rattle.ql_schedule.specs.Texts.{name_at}
 use Rattle.ql_schedule.proofs.Clean.{clean}
 
@@ -121,5 +121,5 @@ place_of before (v ∷ ws) (suc o) are less =
     rw met (later_place n (length ws) o (nat_lt n (length ws)) refl later)
 
 -- each of some names apart is found by its own
-pub found_by_name : (names : List (List ℕ)) (o : ℕ) → AreNew [] names → o < length names → IsFound names o
+pub found_by_name : (names : List (List ℕ)) (o : ℕ) → AreNew [] names → o < length names → IsFoundByName names o
 found_by_name names o are less = (named_at [] names o are less, place_of [] names o are less)

@@ -43,7 +43,7 @@ use Rattle.ql_schedule.specs.declared.schedule.Schedule.{Schedule}
 use Rattle.ql_schedule.specs.Arguments.{fit, has_base, is_too_great, argument_values}
 use Rattle.ql_schedule.specs.EventLines.{is_of_version}
 use Rattle.ql_schedule.specs.Files.{GivesLine, IsScheduleFile}
-use Rattle.ql_schedule.specs.Guarantees.{AreFit, FitsCall, FitsEvent, IsCaller, IsOfVersion, IsSchedule, IsSound}
+use Rattle.ql_schedule.specs.Guarantees.{AreFit, FitsCall, FitsEvent, IsCaller, IsOfVersion, IsSchedule, IsSoundSchedule}
 use Rattle.ql_schedule.specs.Headers.{IsVersion}
 use Rattle.ql_schedule.specs.Judging.{declaration_faults, declares_too_many, event_faults, fit_op, is_caller_out, is_full, is_same_type, may_call, replicas_faults}
 use Rattle.ql_schedule.specs.Makings.{declared_from, event_of, id_of, of_replicas, replicas_with}
@@ -229,7 +229,7 @@ fit_more p objects kinds n (d ∷ es) e h k = (h.0, fit_more p objects kinds (re
 
 -- ---- line by line
 
-count_sound : (p : Program) (version n : ℕ) → IsVersion version → lowest (replicas_faults n) ≡ None → IsSound p (Declaring (of_replicas version n))
+count_sound : (p : Program) (version n : ℕ) → IsVersion version → lowest (replicas_faults n) ≡ None → IsSoundSchedule p (Declaring (of_replicas version n))
 count_sound p version n is e =
     let h = (clean (replicas_faults n) e).range in (
       record {
@@ -249,7 +249,7 @@ count_sound p version n is e =
 new_name : (names : List (List ℕ)) (w : List ℕ) → has_name names w ≡ false → with_name names w ≡ names ++ w ∷ []
 new_name names w e = rw e refl
 
-declared_sound : (p : Program) (s : Schedule) (d : Declaration) → IsSound p (Declaring s) → lowest (declaration_faults p s d) ≡ None → IsSound p (after_declaration p s d)
+declared_sound : (p : Program) (s : Schedule) (d : Declaration) → IsSoundSchedule p (Declaring s) → lowest (declaration_faults p s d) ≡ None → IsSoundSchedule p (after_declaration p s d)
 declared_sound p s (Object name kind) is e =
     let h = clean (declaration_faults p s (Object name kind)) e in
     let names = new_name s.objects name h.twice in
@@ -275,7 +275,7 @@ declared_sound p s (Object name kind) is e =
     few_more n m e h = grind (arith, nat_tests, e, h)
 declared_sound p s Events is e = (is.0, ap (replicas_at_end s.replicas) (sym is.1))
 
-event_sound : (p : Program) (s : Schedule) (n : ℕ) (l : EventLine) → IsSound p (Running s n) → is_of_version s.version l ≡ true → lowest (event_faults p s n l) ≡ None → IsSound p (after_event p s n l)
+event_sound : (p : Program) (s : Schedule) (n : ℕ) (l : EventLine) → IsSoundSchedule p (Running s n) → is_of_version s.version l ≡ true → lowest (event_faults p s n l) ≡ None → IsSoundSchedule p (after_event p s n l)
 event_sound p s n l sound version e =
     let is = sound.0 in
     let room = (either (nat_le 4000 (length s.events)) _ (either (nat_le 4000 (length s.events) || declares_too_many l) (is_full n l) (clean (event_faults p s n l) e).too_many).0).0 in
@@ -296,18 +296,18 @@ event_sound p s n l sound version e =
       counted_so p s n l ∙ ap (λ (m : ℕ). replicas_after m (event_of p s l)) sound.1 ∙ sym (behind-more s.replicas s.events (event_of p s l)),
     )
 
-line_sound : (p : Program) (a b : Reading) (l : Numbered) → IsSound p a → GivesLine p a l (Ok b) → IsSound p b
-line_sound p Untitled b l is m = subst (IsSound p) (sym m.to) m.is.0
-line_sound p (Titled version) b l is m = subst (IsSound p) (sym m.to) (count_sound p version m.line is m.lawful)
-line_sound p (Declaring s) b l is m = subst (IsSound p) (sym m.to) (declared_sound p s m.line is m.lawful)
-line_sound p (Running s n) b l is m = subst (IsSound p) (sym m.to) (event_sound p s n m.line is m.is.1 m.lawful)
+line_sound : (p : Program) (a b : Reading) (l : Numbered) → IsSoundSchedule p a → GivesLine p a l (Ok b) → IsSoundSchedule p b
+line_sound p Untitled b l is m = subst (IsSoundSchedule p) (sym m.to) m.is.0
+line_sound p (Titled version) b l is m = subst (IsSoundSchedule p) (sym m.to) (count_sound p version m.line is m.lawful)
+line_sound p (Declaring s) b l is m = subst (IsSoundSchedule p) (sym m.to) (declared_sound p s m.line is m.lawful)
+line_sound p (Running s n) b l is m = subst (IsSoundSchedule p) (sym m.to) (event_sound p s n m.line is m.is.1 m.lawful)
 
-lines_sound : (p : Program) (ls : List Numbered) (a b : Reading) → IsSound p a → Leads (GivesLine p) Closes a ls b → IsSound p b
+lines_sound : (p : Program) (ls : List Numbered) (a b : Reading) → IsSoundSchedule p a → Leads (GivesLine p) Closes a ls b → IsSoundSchedule p b
 unfolding Leads
-lines_sound p [] a b is h = subst (IsSound p) h is
+lines_sound p [] a b is h = subst (IsSoundSchedule p) h is
 lines_sound p (l ∷ ls) a b is h = lines_sound p ls h.0 b (line_sound p a h.0 l is h.1) h.2
 
-closed_sound : (p : Program) (a : Reading) (end : ℕ) (s : Schedule) → IsSound p a → Closes a end (Ok s) → IsSchedule p s
+closed_sound : (p : Program) (a : Reading) (end : ℕ) (s : Schedule) → IsSoundSchedule p a → Closes a end (Ok s) → IsSchedule p s
 closed_sound p (Running t n) end s is h = let same : t ≡ s = cc in subst (IsSchedule p) same is.0
 closed_sound p Untitled end s is h = absurd cc
 closed_sound p (Titled version) end s is h = absurd cc

@@ -67,9 +67,9 @@ is_too_great (Given v) = false
 is_too_great TooGreat = true
 
 -- the values of the arguments
-abbrev pub given : Argument → List Value
-given (Given v) = v ∷ []
-given TooGreat = []
+abbrev pub given_values : Argument → List Value
+given_values (Given v) = v ∷ []
+given_values TooGreat = []
 
 abbrev pub argument_values : List Argument → List Value
-argument_values args = flat_map given args
+argument_values args = flat_map given_values args

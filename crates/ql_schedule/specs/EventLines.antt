@@ -86,23 +86,23 @@ event_word Heal = codes "heal"
 event_word (Join near copy) = codes "join"
 
 -- what follows that keyword
-abbrev pub IsRest : Fields → EventLine → Type 0
-IsRest parts (Call c object op args) = IsCallLine parts c object op args
-IsRest parts (Begin c txn objects) = IsBegin parts c txn objects
-IsRest parts (Commit c) = CallerAt c parts []
-IsRest parts (Deliver n) = IsOneNumber parts n
-IsRest parts (Repeat n) = IsOneNumber parts n
-IsRest parts (Lose n) = IsOneNumber parts n
-IsRest parts (Resend effect sender receiver) = IsResend parts effect sender receiver
-IsRest parts (Partition groups) = AreNumbers parts groups
-IsRest parts Heal = parts ≡ []
-IsRest parts (Join near copy) = IsJoin parts near copy
+abbrev pub IsEventRest : Fields → EventLine → Type 0
+IsEventRest parts (Call c object op args) = IsCallLine parts c object op args
+IsEventRest parts (Begin c txn objects) = IsBegin parts c txn objects
+IsEventRest parts (Commit c) = CallerAt c parts []
+IsEventRest parts (Deliver n) = IsOneNumber parts n
+IsEventRest parts (Repeat n) = IsOneNumber parts n
+IsEventRest parts (Lose n) = IsOneNumber parts n
+IsEventRest parts (Resend effect sender receiver) = IsResend parts effect sender receiver
+IsEventRest parts (Partition groups) = AreNumbers parts groups
+IsEventRest parts Heal = parts ≡ []
+IsEventRest parts (Join near copy) = IsJoin parts near copy
 
 -- the parts of a line are this event
 pub record IsEventLine (parts : Fields) (l : EventLine) : Type 0 where
   pub rest : Fields
   pub are : parts ≡ event_word l ∷ rest
-  pub rest_is : IsRest rest l
+  pub rest_is : IsEventRest rest l
 
 -- a version of the format has this line
 abbrev pub is_of_version : ℕ → EventLine → Bool
@@ -115,5 +115,5 @@ IsEventIn version parts l = IsEventLine parts l × (is_of_version version l ≡ 
 
 -- the event of this kind that the parts after its keyword spell
 abbrev pub IsKindRead : List ℕ → Fields → Option EventLine → Type 0
-IsKindRead word parts None = (l : EventLine) → event_word l ≡ word → IsRest parts l → ⊥
-IsKindRead word parts (Some l) = (event_word l ≡ word) × IsRest parts l
+IsKindRead word parts None = (l : EventLine) → event_word l ≡ word → IsEventRest parts l → ⊥
+IsKindRead word parts (Some l) = (event_word l ≡ word) × IsEventRest parts l

@@ -69,8 +69,8 @@ pub record IsSchedule (p : Program) (s : Schedule) : Type 0 where
   pub events : AreFit p (length s.objects) s.kinds s.replicas s.events
 
 -- a schedule that is being read is one
-abbrev pub IsSound : Program → Reading → Type 0
-IsSound p Untitled = Unit {0}
-IsSound p (Titled version) = IsVersion version
-IsSound p (Declaring s) = IsSchedule p s × (s.events ≡ [])
-IsSound p (Running s replicas) = IsSchedule p s × (replicas ≡ replicas_at_end s.replicas s.events)
+abbrev pub IsSoundSchedule : Program → Reading → Type 0
+IsSoundSchedule p Untitled = Unit {0}
+IsSoundSchedule p (Titled version) = IsVersion version
+IsSoundSchedule p (Declaring s) = IsSchedule p s × (s.events ≡ [])
+IsSoundSchedule p (Running s replicas) = IsSchedule p s × (replicas ≡ replicas_at_end s.replicas s.events)

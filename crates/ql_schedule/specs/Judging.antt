@@ -27,8 +27,8 @@ most_replicas = 16
 abbrev pub most_sessions : ℕ
 most_sessions = 256
 
-abbrev pub most_objects : ℕ
-most_objects = 1024
+abbrev pub most_schedule_objects : ℕ
+most_schedule_objects = 1024
 
 abbrev pub most_events : ℕ
 most_events = 4000
@@ -47,7 +47,7 @@ declaration_faults p s (Object name kind) = record {
   unknown = is_none (type_place p.types kind);
   kind = false;
   range = false;
-  too_many = nat_le most_objects (length s.objects);
+  too_many = nat_le most_schedule_objects (length s.objects);
   twice = has_name s.objects name;
 }
 declaration_faults p s Events = no_faults

@@ -27,7 +27,7 @@ use Rattle.ql_schedule.specs.declared.rules.SchedRule.{SchedRule}
 use Rattle.ql_schedule.specs.declared.rules.SchedRule.TheVariants.{Unexpected, Unknown, Kind, Range, TooMany, Twice}
 use Rattle.ql_schedule.specs.declared.schedule.Schedule.{Schedule}
 use Rattle.ql_schedule.specs.Arguments.{AreArguments, IsArgument, SpellsScalar}
-use Rattle.ql_schedule.specs.EventLines.{AreNumbers, CallerAt, IsBegin, IsCallLine, IsCalled, IsEventIn, IsEventLine, IsJoin, IsOneNumber, IsResend, IsRest, join_word, event_word}
+use Rattle.ql_schedule.specs.EventLines.{AreNumbers, CallerAt, IsBegin, IsCallLine, IsCalled, IsEventIn, IsEventLine, IsJoin, IsOneNumber, IsResend, IsEventRest, join_word, event_word}
 use Rattle.ql_schedule.specs.Headers.{IsDeclaration, IsReplicas, IsTitle, IsVersion}
 use Rattle.ql_schedule.specs.Judging.{declaration_faults, event_faults, replicas_faults}
 use Rattle.ql_schedule.specs.Makings.{of_replicas}
@@ -191,7 +191,7 @@ one_join parts m n b c h k =
     let word = one_join_word b c (ap (λ (fs : Fields). get_or fs 0 []) same) in
     ap (λ x. Join x b) near ∙ ap (λ x. Join n x) word
 
-one_rest : (parts : Fields) (l m : EventLine) → no_of_kind (kind_no l) ≡ no_of_kind (kind_no m) → IsRest parts l → IsRest parts m → l ≡ m
+one_rest : (parts : Fields) (l m : EventLine) → no_of_kind (kind_no l) ≡ no_of_kind (kind_no m) → IsEventRest parts l → IsEventRest parts m → l ≡ m
 unfolding no_of_kind
 one_rest parts (Call c o f xs) (Call d p g ys) e a b = one_call parts c d o p f g xs ys a b
 one_rest parts (Begin c t xs) (Begin d u ys) e a b = one_begin parts c d t u xs ys a b
@@ -210,7 +210,7 @@ one_event parts l m h k =
     let e = sym h.are ∙ k.are in
     let word : event_word l ≡ event_word m = ap (λ (fs : Fields). get_or fs 0 []) e in
     let rest : h.rest ≡ k.rest = ap (λ (fs : Fields). drop 1 fs) e in
-    one_rest k.rest l m (same_no l m word) (subst (λ fs. IsRest fs l) rest h.rest_is) k.rest_is
+    one_rest k.rest l m (same_no l m word) (subst (λ fs. IsEventRest fs l) rest h.rest_is) k.rest_is
 
 -- ---- headers
 

@@ -26,8 +26,8 @@ AreNew before [] = Unit {0}
 AreNew before (w ∷ ws) = IsName w × (has_name before w ≡ false) × AreNew (before ++ w ∷ []) ws
 
 -- an object's number is found by its name
-abbrev pub IsFound : List (List ℕ) → ℕ → Type 0
-IsFound objects o = IsName (name_at objects o) × (place objects (name_at objects o) ≡ Some o)
+abbrev pub IsFoundByName : List (List ℕ) → ℕ → Type 0
+IsFoundByName objects o = IsName (name_at objects o) × (place objects (name_at objects o) ≡ Some o)
 
 -- the value of a scalar within the limits
 abbrev pub IsSpelledValue : Value → Type 0
@@ -35,7 +35,7 @@ IsSpelledValue v = (s : Scalar) × (v ≡ value_of_scalar s) × IsScalar s
 
 module _ (p : Program) (objects : List (List ℕ)) where
   pub record IsSpelledCall (object op : ℕ) (args : List Value) : Type 0 where
-    pub is_object : IsFound objects object
+    pub is_object : IsFoundByName objects object
     pub is_op : IsName (op_name p op)
     pub op_found : op_place p.types (op_name p op) ≡ Some op
     pub values : AllByRecursion IsSpelledValue args
@@ -43,7 +43,7 @@ module _ (p : Program) (objects : List (List ℕ)) where
   pub record IsSpelledBegin (decl : ℕ) (ids : List ℕ) : Type 0 where
     pub is_txn : IsName (txn_name p decl)
     pub txn_found : txn_place p.txns (txn_name p decl) ≡ Some decl
-    pub are_objects : AllByRecursion (IsFound objects) ids
+    pub are_objects : AllByRecursion (IsFoundByName objects) ids
     pub ascending : IsAscending ids
     pub some : 0 < length ids
     pub few : length ids ≤ 16

@@ -50,12 +50,12 @@ schedule_lines p s =
 
 -- ---- what can be printed: all numbers name something
 
-abbrev pub IsNamed : Program → ℕ → Event → Type 0
-IsNamed p objects (Call session replica object op args) = (object.0 < objects) × (op.0 < length (all_ops p.types))
-IsNamed p objects (Begin session replica decl ids) = (decl.0 < length p.txns) × All (λ o. o < objects) ids
-IsNamed p objects _ = Unit {0}
+abbrev pub IsNamedEvent : Program → ℕ → Event → Type 0
+IsNamedEvent p objects (Call session replica object op args) = (object.0 < objects) × (op.0 < length (all_ops p.types))
+IsNamedEvent p objects (Begin session replica decl ids) = (decl.0 < length p.txns) × All (λ o. o < objects) ids
+IsNamedEvent p objects _ = Unit {0}
 
-pub record AreNamed (p : Program) (s : Schedule) : Type 0 where
+pub record IsWellNamed (p : Program) (s : Schedule) : Type 0 where
   pub typed : length s.kinds ≡ length s.objects
   pub types : All (λ t. t.0 < length p.types) s.kinds
-  pub events : All (IsNamed p (length s.objects)) s.events
+  pub events : All (IsNamedEvent p (length s.objects)) s.events

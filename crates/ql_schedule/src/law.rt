@@ -5,7 +5,7 @@ ghost use Rattle.ql_lines.specs.Texts.{file_text};
 ghost use Rattle.ql_schedule.specs.declared.fault.SchedFault.{SchedFault};
 ghost use Rattle.ql_schedule.specs.declared.schedule.Schedule.{Schedule};
 ghost use Rattle.ql_schedule.specs.Files.{IsFirstFault, IsScheduleFile};
-ghost use Rattle.ql_schedule.specs.Spelled.{AreNew, IsFound, IsSpelled};
+ghost use Rattle.ql_schedule.specs.Spelled.{AreNew, IsFoundByName, IsSpelled};
 ghost use Rattle.ql_schedule.specs.Texts.{schedule_lines};
 
 /// A file spells one schedule of a program or has one first fault, never both, and never neither.
@@ -31,5 +31,5 @@ pub fn objects_have_own_names()
     ensures names { (p : Program) (file : Ahead) (s : Schedule) → IsScheduleFile p file s
         → AreNew [] s.objects }
     ensures found { (p : Program) (file : Ahead) (s : Schedule) (o : ℕ) → IsScheduleFile p file s
-        → o < length s.objects → IsFound s.objects o }
+        → o < length s.objects → IsFoundByName s.objects o }
 {}

@@ -1,5 +1,5 @@
 ghost use Rattle.std.specs.Prelude.{◌≡◌, ◌++◌, OnOk, ◌<◌, ◌^◌, IfOk, None, All, false};
-ghost use Rattle.ql_schedule.specs.Arguments.{given, argument_values};
+ghost use Rattle.ql_schedule.specs.Arguments.{given_values, argument_values};
 ghost use Rattle.ql_machine.specs.declared.event.Event.TheVariants as event;
 ghost use Rattle.ql_schedule.specs.Judging.{event_faults, is_caller_out};
 ghost use Rattle.ql_schedule.specs.Known.{AreNumbers};
@@ -143,7 +143,7 @@ fn values(alloc: Global, args: Arguments) -> Result<Values, NoMemory>
 }
 
 fn push_given(values: &mut Vec<Value>, arg: Argument) -> Result<(), NoMemory>
-    ensures { OnOk result (values.new.items ≡ values.old.items ++ given arg) }
+    ensures { OnOk result (values.new.items ≡ values.old.items ++ given_values arg) }
 {
     match arg {
         Argument::Given(value) => values.push(value)?,

@@ -2,7 +2,7 @@ ghost use Rattle.std.specs.Prelude.{IfOk, MatchResult};
 ghost use Rattle.ql_lines.specs.Lines.{ahead_from};
 ghost use Rattle.ql_schedule.specs.Files.{IsRefusal, IsScheduleFile};
 ghost use Rattle.ql_schedule.specs.Guarantees.{IsSchedule};
-ghost use Rattle.ql_schedule.specs.Texts.{AreNamed};
+ghost use Rattle.ql_schedule.specs.Texts.{IsWellNamed};
 
 use crate::fault::{SchedFault, fault_of};
 use crate::format::Format;
@@ -16,7 +16,7 @@ pub fn parse_schedule(alloc: Global, t: &Typed, bytes: &[u8]) -> Result<Schedule
     ensures read { MatchResult result (IsScheduleFile t.now.program (ahead_from 1 bytes.now))
         (IsRefusal t.now.program (ahead_from 1 bytes.now)) }
     ensures guarantees { IfOk result (IsSchedule t.now.program) }
-    ensures named { IfOk result (AreNamed t.now.program) }
+    ensures named { IfOk result (IsWellNamed t.now.program) }
 {
     match read_file(&Format { t, alloc }, bytes) {
         Ok(schedule) => Ok(schedule),

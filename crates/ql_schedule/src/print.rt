@@ -4,8 +4,8 @@ ghost use Rattle.ql_typing.specs.Names.{op_name, txn_name};
 ghost use Rattle.ql_typing.specs.Operations.{all_ops};
 ghost use Rattle.ql_value.specs.Spelling.{quoted, value_text};
 ghost use Rattle.ql_schedule.specs.Texts.{
-  AreNamed,
-  IsNamed,
+  IsWellNamed,
+  IsNamedEvent,
   caller_fields,
   event_fields,
   name_at,
@@ -26,7 +26,7 @@ use std::alloc::Global;
 
 /// The text of a schedule of a program.
 pub fn print_schedule(alloc: Global, t: &Typed, s: &Schedule) -> Result<Vec<u8>, NoMemory>
-    requires { AreNamed t.now.program s.now }
+    requires { IsWellNamed t.now.program s.now }
     ensures { IfOk result (λ text. text.items ≡ file_text (schedule_lines t.now.program s.now)) }
 {
     let mut text = Vec::new(alloc);
@@ -42,7 +42,7 @@ pub fn print_schedule(alloc: Global, t: &Typed, s: &Schedule) -> Result<Vec<u8>,
 }
 
 fn push_objects(out: &mut Vec<u8>, t: &Typed, s: &Schedule) -> Result<(), NoMemory>
-    requires { AreNamed t.now.program s.now }
+    requires { IsWellNamed t.now.program s.now }
     ensures { OnOk result
         (out.new.items ≡ out.old.items
         ++ file_text (object_lines t.now.program s.now.objects s.now.kinds)) }
@@ -74,7 +74,7 @@ fn push_object(out: &mut Vec<u8>, t: &Typed, name: &Word, kind: TypeId) -> Resul
 }
 
 fn push_events(out: &mut Vec<u8>, t: &Typed, s: &Schedule) -> Result<(), NoMemory>
-    requires { AreNamed t.now.program s.now }
+    requires { IsWellNamed t.now.program s.now }
     ensures { OnOk result
         (out.new.items ≡ out.old.items
         ++ file_text (map (event_fields t.now.program s.now.objects) s.now.events)) }
@@ -87,7 +87,7 @@ fn push_events(out: &mut Vec<u8>, t: &Typed, s: &Schedule) -> Result<(), NoMemor
 }
 
 fn push_event(out: &mut Vec<u8>, t: &Typed, objects: &Names, event: &Event) -> Result<(), NoMemory>
-    requires { IsNamed t.now.program (length objects.now) event.now }
+    requires { IsNamedEvent t.now.program (length objects.now) event.now }
     ensures { OnOk result
         (out.new.items ≡ out.old.items
         ++ joined (event_fields t.now.program objects.now event.now)) }

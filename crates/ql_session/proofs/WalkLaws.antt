@@ -13,7 +13,7 @@ use Rattle.ql_holder.specs.Closed.{Has}
 use Rattle.ql_holder.proofs.IdSets.{has_id-with}
 use Rattle.ql_machine.specs.Blocking.{IsOf}
 use Rattle.ql_machine.specs.Blocking.{InPast, IsAtHand}
-use Rattle.ql_session.specs.Walks.{GoesDown, IsVisited, IsWalk, Joins}
+use Rattle.ql_session.specs.Walks.{GoesDown, IsVisited, IsPastWalk, Joins}
 use Rattle.ql_session.proofs.PastLaws.{hb-forward, leads-begins, past-step}
 
 -- ---- sessions and sight
@@ -51,7 +51,7 @@ only-own own q has = elim (or_cases (nat_eq own q) (has_id [] q) (sym (has_id-wi
 ]
 
 pub walk-begins : (x : List Effect) (session : SessId) (view met sessions : List ℕ) → ((a : ℕ) → Has view a → Has met a) → ((a : ℕ) → Has met a → Has view a)
-    → sessions ≡ with_id [] session.0 → IsWalk x session view (length x) met sessions
+    → sessions ≡ with_id [] session.0 → IsPastWalk x session view (length x) met sessions
 walk-begins x session view met sessions there back own = record {
   own = subst (λ (l : List ℕ). Has l session.0) (sym own) (has_id-with [] session.0 session.0 ∙ or_left (nat_eq session.0 session.0) false (eq-eqb session.0 session.0 refl));
   viewed = there;
@@ -65,7 +65,7 @@ walk-begins x session view met sessions there back own = record {
 
 -- it was met, or its session was
 pub past-met : (x : List Effect) (session : SessId) (view met sessions : List ℕ) (a : ℕ) (e : Effect) → IsExecution x → effect_at x a ≡ Some e
-    → IsWalk x session view a met sessions → InPast x session (Has view) a → Has met a ⊎ Has sessions e.session.0
+    → IsPastWalk x session view a met sessions → InPast x session (Has view) a → Has met a ⊎ Has sessions e.session.0
 past-met x session view met sessions a e law at walk past = by past.0 past.1 past.2
   where
     later : (d : ℕ) → InPast x session (Has view) d → hb_step x a d ≡ true → Has met a ⊎ Has sessions e.session.0
@@ -181,6 +181,6 @@ walk-in x e f met sessions more others law at first is taken = λ session view w
 
 -- ---- where the walk ends
 
-pub walk-ends : (x : List Effect) (session : SessId) (view met sessions : List ℕ) → IsWalk x session view 0 met sessions
+pub walk-ends : (x : List Effect) (session : SessId) (view met sessions : List ℕ) → IsPastWalk x session view 0 met sessions
     → (a : ℕ) → 1 ≤ a → a ≤ length x → InPast x session (Has view) a → Has met a
 walk-ends x session view met sessions walk a first last past = (walk.visited a first last past).itself

@@ -7,7 +7,7 @@ use Rattle.ql_base.specs.declared.ids.ObjId.{ObjId}
 use Rattle.ql_base.specs.declared.ids.SessId.{SessId}
 use Rattle.ql_session.specs.declared.note.Note.{Note}
 use Rattle.ql_session.specs.Notes.{effects_by, effects_on, stamps_of}
-use Rattle.ql_session.specs.Rows.{all_but_last, row_of}
+use Rattle.ql_session.specs.Rows.{all_but_last, row_at}
 
 -- lists by session and object
 abbrev pub Pairs : Type 0 → Type 0
@@ -41,5 +41,5 @@ ArePairsSame before after = (s : SessId) (o : ObjId) → pair_of after s o ≡ p
 
 pub record AreIndexed {S : Type 0} (notes : List Note) (pairs : Pairs S) (objects stamps : List (List ℕ)) : Type 0 where
   pub by_pair : (s : SessId) (o : ObjId) → pair_of pairs s o ≡ effects_by notes s o
-  pub by_object : (o : ObjId) → row_of objects o.0 ≡ effects_on notes o
-  pub by_session : (s : SessId) → row_of stamps s.0 ≡ stamps_of notes s
+  pub by_object : (o : ObjId) → row_at objects o.0 ≡ effects_on notes o
+  pub by_session : (s : SessId) → row_at stamps s.0 ≡ stamps_of notes s

@@ -13,7 +13,7 @@ pub record IsVisited (x : List Effect) (met sessions : List ℕ) (a : ℕ) : Typ
   pub seen : (e : Effect) → effect_at x a ≡ Some e → (b : ℕ) → Has e.seen b → Has met b
 
 -- the walk has come down to a number of effects, which are still to be visited
-pub record IsWalk (x : List Effect) (session : SessId) (view : List ℕ) (left : ℕ) (met sessions : List ℕ) : Type 0 where
+pub record IsPastWalk (x : List Effect) (session : SessId) (view : List ℕ) (left : ℕ) (met sessions : List ℕ) : Type 0 where
   pub own : Has sessions session.0
   pub viewed : (a : ℕ) → Has view a → Has met a
   pub past : (a : ℕ) → Has met a → InPast x session (Has view) a
@@ -23,7 +23,7 @@ pub record IsWalk (x : List Effect) (session : SessId) (view : List ℕ) (left :
 -- the walk goes down to fewer effects, for every call
 abbrev pub GoesDown : List Effect → ℕ → List ℕ → List ℕ → ℕ → List ℕ → List ℕ → Type 0
 GoesDown x left met sessions fewer more others =
-    (session : SessId) (view : List ℕ) → IsWalk x session view left met sessions → IsWalk x session view fewer more others
+    (session : SessId) (view : List ℕ) → IsPastWalk x session view left met sessions → IsPastWalk x session view fewer more others
 
 -- these ids and those, and no more
 pub record Joins (ids others both : List ℕ) : Type 0 where

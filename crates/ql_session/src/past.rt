@@ -6,7 +6,7 @@ ghost use Rattle.ql_holder.specs.Closed.{Has};
 ghost use Rattle.ql_ranges.specs.Ranges.{ids_of};
 ghost use Rattle.ql_machine.specs.Blocking.{InPast};
 ghost use Rattle.ql_session.specs.Past.{IsLeastOf};
-ghost use Rattle.ql_session.specs.Walks.{GoesDown, IsWalk, Joins};
+ghost use Rattle.ql_session.specs.Walks.{GoesDown, IsPastWalk, Joins};
 
 use ql_base::{EffId, IdSet, NoMemory, SessId};
 use ql_exec::Execution;
@@ -42,7 +42,7 @@ struct Walk {
 fn begin(alloc: Global, session: SessId, view: &IdSet) -> Result<Walk, NoMemory>
     ensures { IfOk result
         (λ walk. (x : List Effect)
-        → IsWalk x session view.now (length x) (ids_of walk.met) (ids_of walk.sessions)) }
+        → IsPastWalk x session view.now (length x) (ids_of walk.met) (ids_of walk.sessions)) }
 {
     let mut sessions = Ranges::new(alloc);
     sessions.insert(session.0)?;

@@ -1,5 +1,5 @@
 ghost use Rattle.std.specs.Prelude.{◌≡◌, ◌<◌, ℕ, [], length, OnOk, OnErr};
-ghost use Rattle.ql_session.specs.Rows.{row_of, lists_of, IsPushed, IsPopped, AreSame};
+ghost use Rattle.ql_session.specs.Rows.{row_at, lists_of, IsPushed, IsPopped, AreSame};
 
 use ql_base::NoMemory;
 use std::alloc::Global;
@@ -33,7 +33,7 @@ impl Rows {
 
     /// The list at an index.
     pub(crate) fn row(&self, k: u32) -> &[u32]
-        ensures { result.now ≡ row_of self.now k }
+        ensures { result.now ≡ row_at self.now k }
     {
         match self.rows.get(k as usize) {
             None => &[],

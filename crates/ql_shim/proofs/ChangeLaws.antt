@@ -12,8 +12,8 @@ use Rattle.ql_base.specs.declared.ids.SessId.{SessId}
 use Rattle.ql_machine.specs.declared.open_txn.OpenTxn.{OpenTxn}
 use Rattle.ql_machine.specs.State.{open_of}
 use Rattle.ql_shim.specs.declared.running.Running.{Running}
-use Rattle.ql_shim.specs.Transactions.{AreApart, is_of}
-use Rattle.ql_shim.specs.Changed.{IsBegun, IsFinished, IsNoted, IsPlace}
+use Rattle.ql_shim.specs.Transactions.{HaveOwnSessions, is_of}
+use Rattle.ql_shim.specs.Changed.{IsJustBegun, IsFinished, IsNoted, IsOpenIndex}
 use Rattle.ql_shim.proofs.RunningLaws.{find-open, find-none, find-set_own, find-set_other, find-remove, without-remove}
 
 abbrev the_txns : List Running → List OpenTxn
@@ -27,7 +27,7 @@ grown-find f p [] r nothing = elim (cases_Bool (p r)) [ inl is ↦ rw is nothing
 grown-find f p (q ∷ running) r nothing = elim (cases_Bool (p q)) [ inl is ↦ rw is refl | inr other ↦ rw other (grown-find f p running r nothing) ]
 
 pub begun-is : (running : List Running) (begun : ℕ) (t : OpenTxn) (own saw : List ℕ) → own ≡ [] → saw ≡ []
-    → IsBegun (record { running = running; begun = begun }) (record { running = running ++ record { txn = t; own = own; saw = saw } ∷ []; begun = suc begun }) t
+    → IsJustBegun (record { running = running; begun = begun }) (record { running = running ++ record { txn = t; own = own; saw = saw } ∷ []; begun = suc begun }) t
 begun-is running begun t own saw none nothing = record {
   open_now = map-append (λ (r : Running). r.txn) running (record { txn = t; own = own; saw = saw } ∷ []);
   begun = refl;
@@ -52,7 +52,7 @@ find-at p (q ∷ running) (suc k) r at first is = elim (cases_Bool (p q)) [
 ]
 
 pub place-here : (running : List Running) (s : SessId) (k : ℕ) (r : Running) → k < length running → r ≡ get_or running k r → list_any (is_of s) (take k running) ≡ false
-    → r.txn.session.0 ≡ s.0 → IsPlace running s k
+    → r.txn.session.0 ≡ s.0 → IsOpenIndex running s k
 place-here running s k r inside is first own =
     let at = slice_get_read running _ k r refl inside is in
     record {
@@ -61,7 +61,7 @@ place-here running s k r inside is first own =
       first = first;
     }
 
-pub place-end : (running : List Running) (s : SessId) → list_any (is_of s) running ≡ false → IsPlace running s (length running)
+pub place-end : (running : List Running) (s : SessId) → list_any (is_of s) running ≡ false → IsOpenIndex running s (length running)
 place-end running s none = record {
   within = omega arith;
   found = find-none (is_of s) running none ∙ sym (slice_get_past running (length running) (omega arith));
@@ -90,13 +90,13 @@ pub record IsThere (running : List Running) (s : SessId) (k : ℕ) (t : OpenTxn)
   pub own : is_of s r ≡ true
   pub txn : r.txn ≡ t
 
-pub there : (running : List Running) (s : SessId) (k : ℕ) (t : OpenTxn) → IsPlace running s k → open_of (map (λ (r : Running). r.txn) running) s ≡ Some t → (r : Running) × IsThere running s k t r
+pub there : (running : List Running) (s : SessId) (k : ℕ) (t : OpenTxn) → IsOpenIndex running s k → open_of (map (λ (r : Running). r.txn) running) s ≡ Some t → (r : Running) × IsThere running s k t r
 there running s k t place is =
     let found = find-open running s t is in
     let at : slice_get running k ≡ Some found.0 = sym place.found ∙ found.1 in
     (found.0, record { at = at; inside = slice_get_within running k found.0 at; found = found.1; own = find-passes (is_of s) running found.0 found.1; txn = found.2 })
 
-pub there-at : (running : List Running) (s : SessId) (k : ℕ) (t : OpenTxn) (q : Running) → IsPlace running s k → open_of (map (λ (r : Running). r.txn) running) s ≡ Some t
+pub there-at : (running : List Running) (s : SessId) (k : ℕ) (t : OpenTxn) (q : Running) → IsOpenIndex running s k → open_of (map (λ (r : Running). r.txn) running) s ≡ Some t
     → q ≡ get_or running k q → IsThere running s k t q
 there-at running s k t q place is read =
     let here = there running s k t place is in
@@ -115,7 +115,7 @@ same-txns (q ∷ running) (suc k) r was at same = ap (λ (txns : List OpenTxn). 
 other-not : (s other : SessId) (r : Running) → is_of s r ≡ true → other.0 ≢ s.0 → is_of other r ≡ false
 other-not s other r own apart = ne_eqb r.txn.session.0 other.0 (λ same. apart (sym same ∙ eqb-true r.txn.session.0 s.0 own))
 
-pub noted-is : (running : List Running) (begun : ℕ) (s : SessId) (k e : ℕ) (seen : List ℕ) (t : OpenTxn) (was r : Running) → IsPlace running s k → IsThere running s k t was
+pub noted-is : (running : List Running) (begun : ℕ) (s : SessId) (k e : ℕ) (seen : List ℕ) (t : OpenTxn) (was r : Running) → IsOpenIndex running s k → IsThere running s k t was
     → r.txn ≡ was.txn → r.own ≡ with_id was.own e → r.saw ≡ union_of was.saw seen
     → IsNoted (record { running = running; begun = begun }) (record { running = set running k r; begun = begun }) s e seen
 noted-is running begun s k e seen t was r place here txn own saw =
@@ -136,7 +136,7 @@ noted-is running begun s k e seen t was r place here txn own saw =
           });
     }
 
-pub finished-is : (running : List Running) (begun : ℕ) (s : SessId) (k : ℕ) (t : OpenTxn) (was : Running) → AreApart running → IsThere running s k t was
+pub finished-is : (running : List Running) (begun : ℕ) (s : SessId) (k : ℕ) (t : OpenTxn) (was : Running) → HaveOwnSessions running → IsThere running s k t was
     → IsFinished (record { running = running; begun = begun }) (record { running = remove running k; begun = begun }) s
 finished-is running begun s k t was apart here = record {
   open_now = without-remove running s k was apart here.at here.own;

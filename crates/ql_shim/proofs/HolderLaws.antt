@@ -8,7 +8,7 @@ use Rattle.ql_base.specs.declared.ids.SessId.{SessId}
 use Rattle.ql_machine.specs.declared.open_txn.OpenTxn.{OpenTxn}
 use Rattle.ql_machine.specs.State.{open_of}
 use Rattle.ql_shim.specs.declared.running.Running.{Running}
-use Rattle.ql_shim.specs.Transactions.{AreApart, is_of}
+use Rattle.ql_shim.specs.Transactions.{HaveOwnSessions, is_of}
 use Rattle.ql_shim.specs.Changed.{IsLeastHolder, least_with}
 use Rattle.ql_shim.proofs.RunningLaws.{find-open, at-none}
 use Rattle.ql_shim.proofs.ChangeLaws.{find-index, find-passes}
@@ -76,7 +76,7 @@ least-next running o k q least at is = by (cases_Bool (has_id q.txn.objects o.0)
         first (inr same) = subst (HoldsAt running o (suc k)) (sym same) (record { index = k; one = q; less = omega arith; at = at; holds = mine; session = refl })
 
 -- each is found by its session, where no session has two
-open-at : (running : List Running) (i : ℕ) (r : Running) (s : SessId) → AreApart running → slice_get running i ≡ Some r → r.txn.session.0 ≡ s.0 → open_of (map (λ (q : Running). q.txn) running) s ≡ Some r.txn
+open-at : (running : List Running) (i : ℕ) (r : Running) (s : SessId) → HaveOwnSessions running → slice_get running i ≡ Some r → r.txn.session.0 ≡ s.0 → open_of (map (λ (q : Running). q.txn) running) s ≡ Some r.txn
 open-at [] zero r s apart at own = cc
 open-at [] (suc i) r s apart at own = cc
 open-at (q ∷ running) zero r s apart at own =
@@ -88,7 +88,7 @@ open-at (q ∷ running) (suc i) r s apart at own =
     let other : nat_eq q.txn.session.0 s.0 ≡ false = ne_eqb q.txn.session.0 s.0 (λ same. both_ways (nat_eq r.txn.session.0 q.txn.session.0) differs (eq-eqb r.txn.session.0 q.txn.session.0 (own ∙ sym same))) in
     rw other (open-at running i r s apart.1 at own)
 
-pub least-all : (running : List Running) (o : ObjId) (least : Option SessId) → AreApart running → IsLeastTo running o (length running) least → IsLeastHolder (map (λ (r : Running). r.txn) running) o least
+pub least-all : (running : List Running) (o : ObjId) (least : Option SessId) → HaveOwnSessions running → IsLeastTo running o (length running) least → IsLeastHolder (map (λ (r : Running). r.txn) running) o least
 least-all running o None apart none = λ session t is. (
     let found = find-open running session t is in
     let at = find-index (is_of session) running found.0 found.1 in

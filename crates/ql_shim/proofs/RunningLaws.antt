@@ -8,7 +8,7 @@ use Rattle.ql_machine.specs.declared.open_txn.OpenTxn.{OpenTxn}
 use Rattle.ql_machine.specs.State.{open_of}
 use Rattle.ql_machine.specs.Changes.{without}
 use Rattle.ql_shim.specs.declared.running.Running.{Running}
-use Rattle.ql_shim.specs.Transactions.{AreApart, is_of}
+use Rattle.ql_shim.specs.Transactions.{HaveOwnSessions, is_of}
 
 -- ---- as the machine has them
 
@@ -70,7 +70,7 @@ any-append p (first ∷ running) r none other =
     let parts = or_none (p first) (list_any p running) none in
     none_or (p first) (list_any p (running ++ r ∷ [])) parts.0 (any-append p running r parts.1 other)
 
-pub apart-push : (running : List Running) (r : Running) → AreApart running → list_any (is_of r.txn.session) running ≡ false → AreApart (running ++ r ∷ [])
+pub apart-push : (running : List Running) (r : Running) → HaveOwnSessions running → list_any (is_of r.txn.session) running ≡ false → HaveOwnSessions (running ++ r ∷ [])
 apart-push [] r apart none = (refl, tt)
 apart-push (first ∷ running) r apart none =
     let parts = or_none (is_of r.txn.session first) (list_any (is_of r.txn.session) running) none in (
@@ -103,7 +103,7 @@ any-set t (o ∷ rest) zero r was same found =
     ap (λ (s : SessId). nat_eq s.0 t.0 || list_any (is_of t) rest) (sym first)
 any-set t (o ∷ rest) (suc j) r was same found = ap (λ (b : Bool). is_of t o || b) (any-set t rest j r was same found)
 
-pub apart-set : (running : List Running) (k : ℕ) (r was : Running) → slice_get running k ≡ Some was → r.txn.session ≡ was.txn.session → AreApart running → AreApart (set running k r)
+pub apart-set : (running : List Running) (k : ℕ) (r was : Running) → slice_get running k ≡ Some was → r.txn.session ≡ was.txn.session → HaveOwnSessions running → HaveOwnSessions (set running k r)
 apart-set [] k r was at same apart = tt
 apart-set (q ∷ running) zero r was at same apart =
     let is : q.txn.session ≡ r.txn.session = (let first : q ≡ was = cc in ap (λ (o : Running). o.txn.session) first ∙ sym same) in
@@ -120,7 +120,7 @@ any-remove p (r ∷ running) (suc k) none =
     let parts = or_none (p r) (list_any p running) none in
     none_or (p r) (list_any p (remove running k)) parts.0 (any-remove p running k parts.1)
 
-pub apart-remove : (running : List Running) (k : ℕ) → AreApart running → AreApart (remove running k)
+pub apart-remove : (running : List Running) (k : ℕ) → HaveOwnSessions running → HaveOwnSessions (remove running k)
 apart-remove [] zero apart = tt
 apart-remove [] (suc k) apart = tt
 apart-remove (r ∷ running) zero apart = apart.1
@@ -148,7 +148,7 @@ at-none p [] (suc k) was none found = cc
 at-none p (q ∷ running) zero was none found = let same : q ≡ was = cc in ap p (sym same) ∙ (or_none (p q) (list_any p running) none).0
 at-none p (q ∷ running) (suc k) was none found = at-none p running k was (or_none (p q) (list_any p running) none).1 found
 
-pub without-remove : (running : List Running) (s : SessId) (k : ℕ) (was : Running) → AreApart running → slice_get running k ≡ Some was → is_of s was ≡ true
+pub without-remove : (running : List Running) (s : SessId) (k : ℕ) (was : Running) → HaveOwnSessions running → slice_get running k ≡ Some was → is_of s was ≡ true
     → map (λ (r : Running). r.txn) (remove running k) ≡ without (map (λ (r : Running). r.txn) running) s
 without-remove [] s zero was apart at own = cc
 without-remove [] s (suc k) was apart at own = cc

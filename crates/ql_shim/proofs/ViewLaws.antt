@@ -26,7 +26,7 @@ use Rattle.ql_shim.specs.declared.running.Running.{Running}
 use Rattle.std.specs.Option.{option_map_or}
 use Rattle.ql_shim.specs.Transactions.{own_of, saw_of}
 use Rattle.ql_shim.specs.Joined.{IsJoined}
-use Rattle.ql_shim.specs.Viewing.{AreClosed, AreSettled, IsAsked, IsAskedOf, IsFirstUnapplied, IsKnown, IsLeastUnapplied, IsSeen, state_of}
+use Rattle.ql_shim.specs.Viewing.{AreClosed, AreAllCommitted, IsAsked, IsAskedOf, IsFirstUnapplied, HasNotesOf, IsLeastUnapplied, IsSeen, state_of}
 use Rattle.ql_shim.proofs.ChangeLaws.{IsThere}
 use Rattle.ql_shim.proofs.JoinedLaws.{step-on}
 
@@ -61,7 +61,7 @@ needs-more x now a b (inl step) = inl step
 needs-more x now a b (inr txn) = inr (refl, txn.1)
 
 -- of others: closed with own ones is closed without
-others-to : (x : List Effect) (now : List OpenTxn) (run : ℕ) (ids : List ℕ) (a : ℕ) → ((b : ℕ) → inside x run b ≡ true → committed x now b ≡ false) → AreSettled x now ids
+others-to : (x : List Effect) (now : List OpenTxn) (run : ℕ) (ids : List ℕ) (a : ℕ) → ((b : ℕ) → inside x run b ≡ true → committed x now b ≡ false) → AreAllCommitted x now ids
     → inside x run a ≡ false → Closed (NeedsNow x now) (λ b. Has ids b ⊎ (inside x run b ≡ true)) a → Closed (Needs x) (Has ids) a
 others-to x now run ids a uncommitted settled other closed = by (closed a (here a))
   where
@@ -94,7 +94,7 @@ own-from x now run ids a uncommitted own each = λ b reached. by a b uncommitted
 
 scope-at : (x : List Effect) (now : List OpenTxn) (o : ObjId) (run : ℕ) (own others on ids set : List ℕ)
     → IsExecution x → AreThose (λ a. inside x run a ≡ true) own → ((a : ℕ) → inside x run a ≡ true → committed x now a ≡ false) → AreThose (λ a. IsOn o (effect_at x a)) on
-    → AreSettled x now set → ((a : ℕ) → Has on a → Has others a ↔ Closed (Needs x) (Has set) a) → IsJoined x own others on ids
+    → AreAllCommitted x now set → ((a : ℕ) → Has on a → Has others a ↔ Closed (Needs x) (Has set) a) → IsJoined x own others on ids
     → (n a : ℕ) → a < n → Has on a → Has ids a ↔ Closed (NeedsNow x now) (λ b. Has set b ⊎ (inside x run b ≡ true)) a
 scope-at x now o run own others on ids set law those uncommitted on_object settled scope joined zero a less is_on = absurd (omega (arith, less))
 scope-at x now o run own others on ids set law those uncommitted on_object settled scope joined (suc n) a less is_on =
@@ -119,7 +119,7 @@ scope-at x now o run own others on ids set law those uncommitted on_object settl
         )
 
 pub seen-are : (x : List Effect) (now : List OpenTxn) (o : ObjId) (on received : List ℕ) (running : Running) (set others ids : List ℕ)
-    → IsExecution x → IsAskedOf now x o on received running → AreSettled x now set → ((a : ℕ) → Has on a → Has others a ↔ Closed (Needs x) (Has set) a)
+    → IsExecution x → IsAskedOf now x o on received running → AreAllCommitted x now set → ((a : ℕ) → Has on a → Has others a ↔ Closed (Needs x) (Has set) a)
     → IsJoined x running.own others on ids
     → AreThose (λ a. IsOn o (effect_at x a) × Closed (NeedsNow x now) (λ b. Has set b ⊎ (inside x running.txn.run.0 b ≡ true)) a) ids
 seen-are x now o on received running set others ids law asked settled scope joined =
@@ -134,7 +134,7 @@ seen-are x now o on received running set others ids law asked settled scope join
     }
 
 -- what has all that it needs among settled ones, and every one of them
-pub closed-kept : (x : List Effect) (now : List OpenTxn) (ids : List ℕ) → AreSettled x now ids → AreClosed x now ids → (a : ℕ) → Has ids a ↔ Closed (Needs x) (Has ids) a
+pub closed-kept : (x : List Effect) (now : List OpenTxn) (ids : List ℕ) → AreAllCommitted x now ids → AreClosed x now ids → (a : ℕ) → Has ids a ↔ Closed (Needs x) (Has ids) a
 closed-kept x now ids settled closed a = (
   λ has b reached. closed a has b (settle x now a b (λ c is. settled a c has is) reached),
   λ all. closed-member (Needs x) (Has ids) a all,
@@ -184,11 +184,11 @@ asked-of running begun x s o on received k t q stands asked =
     let saw : saw_of (record { running = running; begun = begun }) s ≡ q.saw = ap (λ (r : Option Running). option_map_or (λ (p : Running). p.saw) r []) stands.found in
     record {
       open_now = ap (open_of (map (λ (r : Running). r.txn) running)) session ∙ asked.open_now ∙ ap (λ (u : OpenTxn). let some : Option OpenTxn = Some u in some) (sym stands.txn);
-      known = subst (λ (u : OpenTxn). IsKnown x u q.own q.saw) (sym stands.txn)
-          (subst (λ (ids : List ℕ). IsKnown x t q.own ids) saw (subst (λ (ids : List ℕ). IsKnown x t ids (saw_of (record { running = running; begun = begun }) s)) own asked.known));
+      known = subst (λ (u : OpenTxn). HasNotesOf x u q.own q.saw) (sym stands.txn)
+          (subst (λ (ids : List ℕ). HasNotesOf x t q.own ids) saw (subst (λ (ids : List ℕ). HasNotesOf x t ids (saw_of (record { running = running; begun = begun }) s)) own asked.known));
       on_object = asked.on_object;
       received_settled = asked.received_settled;
-      snapshot_settled = subst (λ (u : OpenTxn). AreSettled x (map (λ (r : Running). r.txn) running) u.snapshot) (sym stands.txn) asked.snapshot_settled;
+      snapshot_settled = subst (λ (u : OpenTxn). AreAllCommitted x (map (λ (r : Running). r.txn) running) u.snapshot) (sym stands.txn) asked.snapshot_settled;
       snapshot_closed = subst (λ (u : OpenTxn). AreClosed x (map (λ (r : Running). r.txn) running) u.snapshot) (sym stands.txn) asked.snapshot_closed;
     }
 

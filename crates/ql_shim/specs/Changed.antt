@@ -18,7 +18,7 @@ pub record IsSame (before after : Transactions) (s : SessId) : Type 0 where
   pub saw : saw_of after s ≡ saw_of before s
 
 -- a transaction is open, and has done nothing
-pub record IsBegun (before after : Transactions) (t : OpenTxn) : Type 0 where
+pub record IsJustBegun (before after : Transactions) (t : OpenTxn) : Type 0 where
   pub open_now : open_txns after ≡ open_txns before ++ t ∷ []
   pub begun : after.begun ≡ suc before.begun
   pub same : (s : SessId) → IsSame before after s
@@ -38,19 +38,19 @@ pub record IsFinished (before after : Transactions) (s : SessId) : Type 0 where
   pub others : (other : SessId) → other.0 ≢ s.0 → IsSame before after other
 
 -- the index of a session's open transaction, or the length of the list if it has none
-pub record IsPlace (running : List Running) (s : SessId) (k : ℕ) : Type 0 where
+pub record IsOpenIndex (running : List Running) (s : SessId) (k : ℕ) : Type 0 where
   pub within : k ≤ length running
   pub found : find (is_of s) running ≡ slice_get running k
   pub first : list_any (is_of s) (take k running) ≡ false
 
 -- a session's open transaction declares an object
-abbrev pub Holds : List OpenTxn → ObjId → ℕ → Type 0
-Holds open_txns object session = (t : OpenTxn) × (open_of open_txns (record { 0 = session }) ≡ Some t) × (has_id t.objects object.0 ≡ true)
+abbrev pub DeclaresObject : List OpenTxn → ObjId → ℕ → Type 0
+DeclaresObject open_txns object session = (t : OpenTxn) × (open_of open_txns (record { 0 = session }) ≡ Some t) × (has_id t.objects object.0 ≡ true)
 
 -- the least session whose open transaction declares an object, or none
 abbrev pub IsLeastHolder : List OpenTxn → ObjId → Option SessId → Type 0
 IsLeastHolder open_txns object None = (session : SessId) (t : OpenTxn) → open_of open_txns session ≡ Some t → has_id t.objects object.0 ≡ false
-IsLeastHolder open_txns object (Some least) = IsLeast (Holds open_txns object) least.0
+IsLeastHolder open_txns object (Some least) = IsLeast (DeclaresObject open_txns object) least.0
 
 -- the least session after one more: the lesser of both if that one declares the object
 abbrev pub least_with : ObjId → Option SessId → Running → Option SessId

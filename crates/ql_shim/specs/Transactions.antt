@@ -31,6 +31,6 @@ abbrev pub saw_of : Transactions → SessId → List ℕ
 saw_of shim s = option_map_or (λ r. r.saw) (running_of shim s) []
 
 -- no session has two open
-abbrev pub AreApart : List Running → Type 0
-AreApart [] = Unit {0}
-AreApart (r ∷ running) = (list_any (is_of r.txn.session) running ≡ false) × AreApart running
+abbrev pub HaveOwnSessions : List Running → Type 0
+HaveOwnSessions [] = Unit {0}
+HaveOwnSessions (r ∷ running) = (list_any (is_of r.txn.session) running ≡ false) × HaveOwnSessions running

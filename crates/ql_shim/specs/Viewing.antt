@@ -24,14 +24,14 @@ abbrev pub state_of : List Effect → List OpenTxn → List ℕ → Machine
 state_of x open_txns received = record { effects = x; received = received ∷ []; groups = 0 ∷ []; messages = []; open_txns = open_txns; begun = 0 }
 
 -- what a transaction did is noted: its effects, which are its session's, and what they saw
-pub record IsKnown (x : List Effect) (t : OpenTxn) (own_ids saw_ids : List ℕ) : Type 0 where
+pub record HasNotesOf (x : List Effect) (t : OpenTxn) (own_ids saw_ids : List ℕ) : Type 0 where
   pub own : AreThose (λ a. inside x t.run.0 a ≡ true) own_ids
   pub session : (a : ℕ) → inside x t.run.0 a ≡ true → IsOf t.session (effect_at x a)
   pub saw : AreThose (λ a. (b : ℕ) × (inside x t.run.0 b ≡ true) × (vis x a b ≡ true)) saw_ids
 
 -- no effect of an open transaction is among these, or among all that they need
-abbrev pub AreSettled : List Effect → List OpenTxn → List ℕ → Type 0
-AreSettled x open_txns ids = (a b : ℕ) → Has ids a → Reaches (NeedsNow x open_txns) a b → committed x open_txns b ≡ true
+abbrev pub AreAllCommitted : List Effect → List OpenTxn → List ℕ → Type 0
+AreAllCommitted x open_txns ids = (a b : ℕ) → Has ids a → Reaches (NeedsNow x open_txns) a b → committed x open_txns b ≡ true
 
 -- these have all that they need among them
 abbrev pub AreClosed : List Effect → List OpenTxn → List ℕ → Type 0
@@ -55,17 +55,17 @@ IsFirstUnapplied x received saw own (Some first) =
 -- what is known when a call is made on an object in an open transaction, with what it did
 pub record IsAskedOf (now : List OpenTxn) (x : List Effect) (object : ObjId) (on received : List ℕ) (running : Running) : Type 0 where
   pub open_now : open_of now running.txn.session ≡ Some running.txn
-  pub known : IsKnown x running.txn running.own running.saw
+  pub known : HasNotesOf x running.txn running.own running.saw
   pub on_object : AreThose (λ a. IsOn object (effect_at x a)) on
-  pub received_settled : AreSettled x now received
-  pub snapshot_settled : AreSettled x now running.txn.snapshot
+  pub received_settled : AreAllCommitted x now received
+  pub snapshot_settled : AreAllCommitted x now running.txn.snapshot
   pub snapshot_closed : AreClosed x now running.txn.snapshot
 
 -- the same in the transaction that a session has open
 pub record IsAsked (shim : Transactions) (x : List Effect) (s : SessId) (object : ObjId) (on received : List ℕ) (t : OpenTxn) : Type 0 where
   pub open_now : open_of (open_txns shim) s ≡ Some t
-  pub known : IsKnown x t (own_of shim s) (saw_of shim s)
+  pub known : HasNotesOf x t (own_of shim s) (saw_of shim s)
   pub on_object : AreThose (λ a. IsOn object (effect_at x a)) on
-  pub received_settled : AreSettled x (open_txns shim) received
-  pub snapshot_settled : AreSettled x (open_txns shim) t.snapshot
+  pub received_settled : AreAllCommitted x (open_txns shim) received
+  pub snapshot_settled : AreAllCommitted x (open_txns shim) t.snapshot
   pub snapshot_closed : AreClosed x (open_txns shim) t.snapshot

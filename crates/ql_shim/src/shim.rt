@@ -4,11 +4,11 @@ ghost use Rattle.ql_base.specs.IdLists.{has_id};
 ghost use Rattle.ql_machine.specs.declared.open_txn.OpenTxn.{OpenTxn};
 ghost use Rattle.ql_machine.specs.Sets.{AreThose};
 ghost use Rattle.ql_machine.specs.State.{open_of};
-ghost use Rattle.ql_shim.specs.Transactions.{AreApart, is_of, open_txns, own_of};
+ghost use Rattle.ql_shim.specs.Transactions.{HaveOwnSessions, is_of, open_txns, own_of};
 ghost use Rattle.ql_base.specs.declared.ids.ObjId.{ObjId};
 ghost use Rattle.ql_holder.specs.Needs.{AreThere};
 ghost use Rattle.ql_shim.specs.Viewing.{IsAsked, IsLeastUnapplied, IsSeen, state_of};
-ghost use Rattle.ql_shim.specs.Changed.{IsBegun, IsFinished, IsLeastHolder, IsNoted, IsPlace, least_with};
+ghost use Rattle.ql_shim.specs.Changed.{IsJustBegun, IsFinished, IsLeastHolder, IsNoted, IsOpenIndex, least_with};
 
 use crate::running::Running;
 use crate::view::{View, view_of};
@@ -39,13 +39,13 @@ impl Drop for Shim {
 }
 
 impl Model for Shim {
-    ghost use Rattle.ql_shim.specs.Transactions.{Transactions, AreApart};
+    ghost use Rattle.ql_shim.specs.Transactions.{Transactions, HaveOwnSessions};
 
     ghost Value = { Transactions };
 
     ghost view = { λ shim. record { running = shim.running.items; begun = shim.begun } };
 
-    ghost invariant = { λ shim. AreApart shim.running.items };
+    ghost invariant = { λ shim. HaveOwnSessions shim.running.items };
 }
 
 impl Shim {
@@ -70,7 +70,7 @@ impl Shim {
         requires none { open_of (open_txns self.old) s ≡ None }
         requires room { self.old.begun + 1 < 2 ^ 32 }
         ensures number { IfOk result (λ run. run.0 ≡ self.old.begun + 1) }
-        ensures begun { IfOk result (λ run. IsBegun self.old self.new
+        ensures begun { IfOk result (λ run. IsJustBegun self.old self.new
             (record {
               session = s;
               run = run;
@@ -208,7 +208,7 @@ fn running_in(running: &[Running], s: SessId) -> Option<&Running>
 
 // The index of the session's open transaction, or the length of the list if it has none.
 fn place(running: &[Running], s: SessId) -> usize
-    ensures { IsPlace running.now s result }
+    ensures { IsOpenIndex running.now s result }
 {
     for (k, one) in running.iter().enumerate() {
         if one.txn.session.0 == s.0 {
@@ -219,7 +219,7 @@ fn place(running: &[Running], s: SessId) -> usize
 }
 
 fn least_holder(running: &[Running], o: ObjId) -> Option<SessId>
-    requires { AreApart running.now }
+    requires { HaveOwnSessions running.now }
     ensures { IsLeastHolder (map (λ r. r.txn) running.now) o result }
 {
     let mut least = None;

@@ -24,7 +24,7 @@ use Rattle.ql_store.specs.Viewing.{IsAppliedOn}
 use Rattle.ql_typing.specs.Operations.{all_ops, op_kinds}
 use Rattle.ql_summary.specs.declared.kept.KeptObject.{KeptObject}
 use Rattle.ql_summary.specs.Covering.{ComeLater, Covers}
-use Rattle.ql_summary.specs.Keeping.{AreOn, ids_of, is_kept, nothing}
+use Rattle.ql_summary.specs.Keeping.{AreOn, ids_of, is_kept, nothing_kept}
 use Rattle.ql_summary.specs.Slimming.{bare, slim_effect, slim_of}
 use Rattle.ql_summary.specs.Standing.{AreOfType, FitOperations, IsFormOf, StandsFor}
 use Rattle.ql_summary.proofs.SlimForms.{bare_slim, slim_at}
@@ -66,21 +66,21 @@ pub record IsKeeping (p : Program) (s : Machine) (objects n : ℕ) (kept : List 
   pub stable : AreKept s n kept
   pub empty : (o : ObjId) → n ≤ o.0 → ids_of kept o ≡ []
 
-nothing_at : (n k : ℕ) (one : KeptObject) → slice_get (replicate n nothing) k ≡ Some one → nothing ≡ one
+nothing_at : (n k : ℕ) (one : KeptObject) → slice_get (replicate n nothing_kept) k ≡ Some one → nothing_kept ≡ one
 nothing_at zero k one is = let no : None ≡ Some one = is in absurd cc
-nothing_at (suc n) zero one is = same_Some nothing one is
+nothing_at (suc n) zero one is = same_Some nothing_kept one is
 nothing_at (suc n) (suc k) one is = nothing_at n k one is
 
-none_there : (n k : ℕ) → option_map_or (λ (one : KeptObject). one.ids) (slice_get (replicate n nothing) k) [] ≡ []
+none_there : (n k : ℕ) → option_map_or (λ (one : KeptObject). one.ids) (slice_get (replicate n nothing_kept) k) [] ≡ []
 none_there zero k = refl
 none_there (suc n) zero = refl
 none_there (suc n) (suc k) = none_there n k
 
-length_same : (n : ℕ) → length (replicate n nothing) ≡ n
+length_same : (n : ℕ) → length (replicate n nothing_kept) ≡ n
 length_same zero = refl
 length_same (suc n) = ap suc (length_same n)
 
-pub keeping_starts : (p : Program) (s : Machine) (objects : ℕ) (kept : List KeptObject) → kept ≡ replicate objects nothing → IsKeeping p s objects 0 kept
+pub keeping_starts : (p : Program) (s : Machine) (objects : ℕ) (kept : List KeptObject) → kept ≡ replicate objects nothing_kept → IsKeeping p s objects 0 kept
 keeping_starts p s objects kept is = subst (IsKeeping p s objects 0) (sym is) (record {
   count = length_same objects;
   stands = λ o one there some. (let ids : [] ≡ one.ids = ap (λ (k : KeptObject). k.ids) (nothing_at objects o.0 one there) in let none = ap length ids in absurd (omega (arith, some, none)));

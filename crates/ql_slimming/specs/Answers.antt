@@ -22,8 +22,8 @@ InOrder part zero text = text ≡ []
 InOrder part (suc n) text = (before : List ℕ) × (last : List ℕ) × InOrder part n before × part n last × (text ≡ before ++ last)
 
 -- a text has grown by one of some texts
-abbrev pub Adds : (List ℕ → Type 0) → List ℕ → List ℕ → Type 0
-Adds texts before after = (text : List ℕ) × texts text × (after ≡ before ++ text)
+abbrev pub AppendsOneOf : (List ℕ → Type 0) → List ℕ → List ℕ → Type 0
+AppendsOneOf texts before after = (text : List ℕ) × texts text × (after ≡ before ++ text)
 
 -- the replica of a number
 abbrev pub replica_of : ℕ → ReplicaId

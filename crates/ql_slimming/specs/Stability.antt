@@ -10,13 +10,13 @@ use Rattle.ql_exec.specs.Execution.{IsOn}
 use Rattle.ql_exec.specs.Folding.{comes_before}
 use Rattle.ql_machine.specs.Sets.{AreThose}
 use Rattle.ql_machine.specs.State.{Machine, replicas}
-use Rattle.ql_machine.specs.Views.{Applied}
+use Rattle.ql_machine.specs.Views.{HasApplied}
 use Rattle.ql_store.specs.Viewing.{IsAppliedOn}
 
 module _ (s : Machine) where
   -- each replica has applied an effect
   abbrev pub IsAppliedEverywhere : ℕ → Type 0
-  IsAppliedEverywhere a = (r : ℕ) → r < replicas s → Applied s r a
+  IsAppliedEverywhere a = (r : ℕ) → r < replicas s → HasApplied s r a
 
   -- An effect is stable on its object: it and all effects on the object that come before it are applied everywhere. So the
   -- stable effects of an object are the longest prefix of all effects on it, in order of stamp and session, that each

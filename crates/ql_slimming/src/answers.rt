@@ -3,7 +3,7 @@ ghost use Rattle.ql_machine.specs.Sets.{AreThose};
 ghost use Rattle.ql_store.specs.Viewing.{IsAppliedOn};
 ghost use Rattle.ql_typing.specs.Operations.{all_ops};
 ghost use Rattle.ql_slimming.specs.Answers.{
-  Adds,
+  AppendsOneOf,
   AreAnswersOf,
   AreAnswersOn,
   InOrder,
@@ -42,7 +42,7 @@ pub(crate) fn push_answers(alloc: Global, out: &mut Vec<u8>, left: &Left) -> Res
     requires { IsLeft left.now.t.now.program (length left.now.objects.now) left.now.kinds.now
         left.now.replicas left.now.store.now.machine left.now.kept.now left.now.small.now }
     ensures { OnOk result
-        (Adds (InOrder (AreAnswersOn left.now.t.now.program left.now.objects.now left.now.kinds.now
+        (AppendsOneOf (InOrder (AreAnswersOn left.now.t.now.program left.now.objects.now left.now.kinds.now
         left.now.store.now.machine) (length left.now.objects.now)) out.old.items
         out.new.items) }
 {
@@ -58,7 +58,7 @@ fn push_on(alloc: Global, out: &mut Vec<u8>, left: &Left, o: ObjId) -> Result<()
         left.now.replicas left.now.store.now.machine left.now.kept.now left.now.small.now }
     requires object { o.0 < length left.now.objects.now }
     ensures { OnOk result
-        (Adds (AreAnswersOn left.now.t.now.program left.now.objects.now left.now.kinds.now
+        (AppendsOneOf (AreAnswersOn left.now.t.now.program left.now.objects.now left.now.kinds.now
         left.now.store.now.machine o.0) out.old.items out.new.items) }
 {
     let views = views_on(alloc, left.store, left.replicas, o)?;
@@ -83,7 +83,7 @@ fn push_of(
     requires op { op.0 < length (all_ops left.now.t.now.program.types) }
     requires views { AreViews left.now.store.now.machine o views.now }
     ensures { OnOk result
-        (Adds (AreAnswersOf left.now.t.now.program left.now.objects.now left.now.kinds.now
+        (AppendsOneOf (AreAnswersOf left.now.t.now.program left.now.objects.now left.now.kinds.now
         left.now.store.now.machine o.0 op.0) out.old.items out.new.items) }
 {
     if !is_asked(left, o, op) {
@@ -123,7 +123,7 @@ fn push_line(
     requires replica { r < length left.now.store.now.machine.received }
     requires view { AreThose (IsAppliedOn left.now.store.now.machine (replica_of r) o) view.now }
     ensures { OnOk result
-        (Adds (IsAnswerLine left.now.t.now.program left.now.objects.now left.now.store.now.machine
+        (AppendsOneOf (IsAnswerLine left.now.t.now.program left.now.objects.now left.now.store.now.machine
         o.0 op.0 r) out.old.items out.new.items) }
 {
     let none = Values::of(Vec::new(alloc));

@@ -2,7 +2,7 @@ ghost use Rattle.std.specs.Prelude.{◌≡◌, ◌<◌, ◌^◌, All, length, If
 ghost use Rattle.ql_machine.specs.Sets.{AreThose};
 ghost use Rattle.ql_runs.specs.Keeping.{FitsSchedule};
 ghost use Rattle.ql_slimming.specs.Ready.{AreKept, IsKeptAt, is_kept_at};
-ghost use Rattle.ql_summary.specs.Keeping.{IsThere};
+ghost use Rattle.ql_summary.specs.Keeping.{IsEffect};
 ghost use Rattle.ql_summary.specs.Standing.{StandsFor};
 
 use crate::collecting::include_if;
@@ -57,7 +57,7 @@ pub(crate) fn kept_effects(alloc: Global, x: &Execution, kept: &Kept) -> Result<
 
 // Whether an effect is kept of its object.
 fn is_kept(x: &Execution, kept: &Kept, id: EffId) -> bool
-    requires there { IsThere x.now id.0 }
+    requires there { IsEffect x.now id.0 }
     requires objects { All (λ e. e.object.0 < length kept.now) x.now }
     ensures { result ≡ is_kept_at x.now kept.now id.0 }
 {

@@ -11,7 +11,7 @@ ghost use Rattle.ql_slimming.specs.Stability.{
   is_on,
   is_open,
 };
-ghost use Rattle.ql_summary.specs.Keeping.{IsThere};
+ghost use Rattle.ql_summary.specs.Keeping.{IsEffect};
 
 use crate::collecting::include_if;
 use ql_base::{EffId, IdSet, NoMemory, ObjId};
@@ -40,7 +40,7 @@ pub(crate) fn stable_on(
 
 // Whether an effect is on an object, and comes before the first one that isn't stable, where there is one.
 fn is_stable(x: &Execution, object: ObjId, first: Option<EffId>, id: EffId) -> bool
-    requires { IsThere x.now id.0 }
+    requires { IsEffect x.now id.0 }
     ensures { result ≡ (is_on x.now object id.0 && comes_earlier x.now id.0 first) }
 {
     is_on(x, object, id) && is_earlier(x, id, first)
@@ -65,7 +65,7 @@ fn earlier_open(
     first: Option<EffId>,
     next: EffId,
 ) -> Option<EffId>
-    requires { IsThere x.now next.0 }
+    requires { IsEffect x.now next.0 }
     ensures { result ≡ cond
         (is_open x.now object views.now next.0 && comes_earlier x.now next.0 first) (Some next)
         first }
@@ -79,7 +79,7 @@ fn earlier_open(
 
 // Whether an effect is on an object, and some replica hasn't applied it.
 fn is_open(x: &Execution, object: ObjId, views: &[IdSet], id: EffId) -> bool
-    requires { IsThere x.now id.0 }
+    requires { IsEffect x.now id.0 }
     ensures { result ≡ is_open x.now object views.now id.0 }
 {
     is_on(x, object, id) && !is_everywhere(views, id)
@@ -94,7 +94,7 @@ fn is_everywhere(views: &[IdSet], id: EffId) -> bool
 
 // Whether an effect is on an object.
 fn is_on(x: &Execution, object: ObjId, id: EffId) -> bool
-    requires { IsThere x.now id.0 }
+    requires { IsEffect x.now id.0 }
     ensures { result ≡ is_on x.now object id.0 }
 {
     x.get(id).object == object

@@ -20,7 +20,7 @@ use Rattle.ql_machine.specs.Rules.{Promises, Rules}
 use Rattle.ql_machine.specs.Sets.{AreThose}
 use Rattle.ql_machine.specs.State.{Machine, open_of, received_at}
 use Rattle.ql_machine.specs.Steps.{IsStep, after_begin, begins, begun_txn}
-use Rattle.ql_machine.specs.Views.{Applied}
+use Rattle.ql_machine.specs.Views.{HasApplied}
 use Rattle.ql_machine.specs.Kept.{Keeps, TxnsKept}
 use Rattle.ql_machine.proofs.Alone.{applied-same}
 use Rattle.ql_machine.proofs.Lists.{open-cases}
@@ -28,9 +28,9 @@ use Rattle.ql_machine.proofs.Pushed.{inside-found, same_session}
 use Rattle.ql_machine.proofs.SoundLaws.{none-own}
 use Rattle.ql_net.specs.Network.{Network}
 use Rattle.ql_shim.specs.declared.running.Running.{Running}
-use Rattle.ql_shim.specs.Changed.{IsBegun, IsSame}
+use Rattle.ql_shim.specs.Changed.{IsJustBegun, IsSame}
 use Rattle.ql_shim.specs.Transactions.{Transactions, open_txns, own_of, running_of, saw_of}
-use Rattle.ql_shim.specs.Viewing.{IsKnown}
+use Rattle.ql_shim.specs.Viewing.{HasNotesOf}
 use Rattle.ql_shim.proofs.RunningLaws.{open_of-running}
 use Rattle.ql_store.specs.State.{AreKnown, machine_of}
 
@@ -51,21 +51,21 @@ nothing-noted shim s none =
     )
 
 -- of a transaction in which no effect is there is nothing to know
-known-nothing : (x : List Effect) (t : OpenTxn) (own saw : List ℕ) → own ≡ [] → saw ≡ [] → ((a : ℕ) → inside x t.run.0 a ≡ true → ⊥) → IsKnown x t own saw
+known-nothing : (x : List Effect) (t : OpenTxn) (own saw : List ℕ) → own ≡ [] → saw ≡ [] → ((a : ℕ) → inside x t.run.0 a ≡ true → ⊥) → HasNotesOf x t own saw
 known-nothing x t own saw none nothing never =
-    let start : IsKnown x t [] [] = record {
+    let start : HasNotesOf x t [] [] = record {
       own = record { ascending = tt; all = λ a is. absurd (never a is); only = λ a has. absurd (false≢true has) };
       session = λ a is. absurd (never a is);
       saw = record { ascending = tt; all = λ a is. absurd (never is.0 is.1); only = λ a has. absurd (false≢true has) };
     } in
-    subst (λ (ids : List ℕ). IsKnown x t ids saw) (sym none) (subst (λ (ids : List ℕ). IsKnown x t [] ids) (sym nothing) start)
+    subst (λ (ids : List ℕ). HasNotesOf x t ids saw) (sym none) (subst (λ (ids : List ℕ). HasNotesOf x t [] ids) (sym nothing) start)
 
-pub known-same : (x : List Effect) (t : OpenTxn) (before after : Transactions) (s : SessId) → IsSame before after s → IsKnown x t (own_of before s) (saw_of before s) → IsKnown x t (own_of after s) (saw_of after s)
+pub known-same : (x : List Effect) (t : OpenTxn) (before after : Transactions) (s : SessId) → IsSame before after s → HasNotesOf x t (own_of before s) (saw_of before s) → HasNotesOf x t (own_of after s) (saw_of after s)
 known-same x t before after s same known =
-    subst (λ (ids : List ℕ). IsKnown x t ids (saw_of after s)) (sym same.own) (subst (λ (ids : List ℕ). IsKnown x t (own_of before s) ids) (sym same.saw) known)
+    subst (λ (ids : List ℕ). HasNotesOf x t ids (saw_of after s)) (sym same.own) (subst (λ (ids : List ℕ). HasNotesOf x t (own_of before s) ids) (sym same.saw) known)
 
 pub known-begun : (x : List Effect) (before after : Transactions) (t : OpenTxn) → TxnsKept x (open_txns before) before.begun → t.run.0 ≡ suc before.begun → open_of (open_txns before) t.session ≡ None
-    → IsBegun before after t → AreKnown x before → AreKnown x after
+    → IsJustBegun before after t → AreKnown x before → AreKnown x after
 known-begun x before after t txns new none begun known session u is = elim (open-cases (open_txns before) t u session (subst (λ (o : List OpenTxn). open_of o session ≡ Some u) begun.open_now is)) [
   | inl old ↦ known-same x u before after session (begun.same session) (known session u old)
   | inr more ↦
@@ -78,11 +78,11 @@ known-begun x before after t txns new none begun known session u is = elim (open
 pub step-begins : (rules : Rules) (promises : Promises) (n : ℕ) (x : List Effect) (received : List (List ℕ)) (net : Network) (before after : Transactions) (session : SessId) (replica : ReplicaId)
     (decl : DeclId) (objects snapshot : List ℕ) (run : RunId) → Keeps promises n (machine_of x received net before) → open_of (open_txns before) session ≡ None → replica.0 < length received
     → AreThose (held.Applied x (received_at received replica.0)) snapshot → run.0 ≡ suc before.begun
-    → IsBegun before after (record { session = session; run = run; decl = decl; objects = objects; snapshot = snapshot })
+    → IsJustBegun before after (record { session = session; run = run; decl = decl; objects = objects; snapshot = snapshot })
     → IsStep rules (machine_of x received net before) (event.Begin session replica decl objects) (machine_of x received net after) reply.Begun
 step-begins rules promises n x received net before after session replica decl objects snapshot run keeps none inside are number begun =
     let s = machine_of x received net before in
-    let those : AreThose (Applied s replica.0) snapshot = record {
+    let those : AreThose (HasApplied s replica.0) snapshot = record {
       ascending = are.ascending;
       all = λ a is. are.all a ((applied-same promises n s keeps replica.0 a).0 is);
       only = λ a has. (applied-same promises n s keeps replica.0 a).1 (are.only a has);

@@ -21,9 +21,9 @@ use Rattle.ql_machine.specs.declared.reply.Reply.TheVariants as reply
 use Rattle.ql_machine.specs.Sets.{AreThose}
 use Rattle.ql_machine.specs.State.{Machine, received_at, replicas}
 use Rattle.ql_machine.specs.Rules.{Call, Rules}
-use Rattle.ql_machine.specs.Views.{Applied, InView, PlainScope, Scope}
+use Rattle.ql_machine.specs.Views.{HasApplied, InView, PlainScope, Scope}
 use Rattle.ql_machine.specs.Blocking.{IsMissing, MissingInTxn, MustSee, NoneMissingInTxn}
-use Rattle.ql_machine.specs.Changes.{draft_of, effect_made, package_to_others, received_by}
+use Rattle.ql_machine.specs.Changes.{draft_of_call, effect_made, package_to_others, received_by}
 use Rattle.ql_machine.specs.Calls.{HasNoneOpen, IsCall, MayAnswer, MayCall, after_plain, blocked, makes}
 use Rattle.ql_machine.specs.Kept.{Keeps}
 use Rattle.ql_exec.specs.Effects.{in_run}
@@ -37,7 +37,7 @@ use Rattle.ql_machine.specs.Steps.{IsStep}
 use Rattle.ql_machine.specs.Rules.{Promises}
 use Rattle.ql_machine.specs.Blocking.{IsOf}
 use Rattle.ql_machine.proofs.Pushed.{at-longer, inside-cases, inside-found, inside-longer, vis-cases, vis-longer}
-use Rattle.ql_shim.specs.Viewing.{IsKnown}
+use Rattle.ql_shim.specs.Viewing.{HasNotesOf}
 use Rattle.ql_machine.proofs.Alone.{applied-same}
 use Rattle.ql_machine.proofs.Answering.{made}
 use Rattle.ql_machine.proofs.Past.{past-wider}
@@ -60,13 +60,13 @@ wanted-must s c sees ids those Causal a is = is
 wanted-must s c sees ids those Wide a is = (is.0, past-wider s.effects c.session (Has ids) sees those.only a is.1)
 wanted-must s c sees ids those Strong a is = is
 
-scope-in : (s : Machine) (r a : ℕ) (level : Level) → Applied s r a → PlainScope s r level a
+scope-in : (s : Machine) (r a : ℕ) (level : Level) → HasApplied s r a → PlainScope s r level a
 scope-in s r a Eventual is = is
 scope-in s r a Causal is = is
 scope-in s r a Wide is = is
 scope-in s r a Strong is = tt
 
-scope-out : (s : Machine) (r a : ℕ) (level : Level) → level ≢ Strong → PlainScope s r level a → Applied s r a
+scope-out : (s : Machine) (r a : ℕ) (level : Level) → level ≢ Strong → PlainScope s r level a → HasApplied s r a
 scope-out s r a Eventual below is = is
 scope-out s r a Causal below is = is
 scope-out s r a Wide below is = is
@@ -126,16 +126,16 @@ module _ (rules : Rules) (start : ℕ) (s : Machine) (c : Call) (plain : IsPlain
     view = view;
   }
 
-  effect-is : (draft : Draft) → draft ≡ draft_of c None (rules.answer c.op c.args (seen_in_order s.effects ids)) ids → effect_of s.effects draft ≡ effect_made rules s c ids
+  effect-is : (draft : Draft) → draft ≡ draft_of_call c None (rules.answer c.op c.args (seen_in_order s.effects ids)) ids → effect_of s.effects draft ≡ effect_made rules s c ids
   effect-is draft is =
-      ap (effect_of s.effects) (is ∙ ap (λ (now : Option OpenTxn). draft_of c now (rules.answer c.op c.args (seen_in_order s.effects ids)) ids) (sym plain.none))
+      ap (effect_of s.effects) (is ∙ ap (λ (now : Option OpenTxn). draft_of_call c now (rules.answer c.op c.args (seen_in_order s.effects ids)) ids) (sym plain.none))
 
   pub plain-lawful : (draft : Draft) → IsLeastLacking s.effects (rules.level c.op) c.session c.object ids None
-      → draft ≡ draft_of c None (rules.answer c.op c.args (seen_in_order s.effects ids)) ids → IsExecution (s.effects ++ effect_of s.effects draft ∷ [])
+      → draft ≡ draft_of_call c None (rules.answer c.op c.args (seen_in_order s.effects ids)) ids → IsExecution (s.effects ++ effect_of s.effects draft ∷ [])
   plain-lawful draft none is =
       subst (λ (e : Effect). IsExecution (s.effects ++ e ∷ [])) (sym (effect-is draft is)) (made rules start s c ids plain.keeps (plain-answers none)).grown
 
-  pub plain-apart : (draft : Draft) → draft ≡ draft_of c None (rules.answer c.op c.args (seen_in_order s.effects ids)) ids → (r : ℕ)
+  pub plain-apart : (draft : Draft) → draft ≡ draft_of_call c None (rules.answer c.op c.args (seen_in_order s.effects ids)) ids → (r : ℕ)
       → JoinsNone s.effects (effect_of s.effects draft ∷ []) (received_at s.received r)
   plain-apart draft is r =
       subst (λ (e : Effect). JoinsNone s.effects (e ∷ []) (received_at s.received r)) (sym (effect-is draft is))
@@ -150,13 +150,13 @@ each-holder received holds holders each = λ k d inside. subst holds (get_or-map
 
 -- the state after it
 pub plain-after : (rules : Rules) (x later : List Effect) (received lists : List (List ℕ)) (net after : Network) (shim : Transactions) (c : Call) (ids : List ℕ) (draft : Draft)
-    → HasNoneOpen (machine_of x received net shim) c.session → draft ≡ draft_of c None (rules.answer c.op c.args (seen_in_order x ids)) ids
+    → HasNoneOpen (machine_of x received net shim) c.session → draft ≡ draft_of_call c None (rules.answer c.op c.args (seen_in_order x ids)) ids
     → length net.groups ≡ length received → later ≡ x ++ effect_of x draft ∷ [] → lists ≡ received_by received c.replica.0 ((next_id x).0 ∷ [])
     → after ≡ record net { messages = net.messages ++ package_to_others (length net.groups) c.replica ((next_id x).0 ∷ []) }
     → machine_of later lists after shim ≡ after_plain rules (machine_of x received net shim) c ids
 plain-after rules x later received lists net after shim c ids draft none is grouped made got sent =
     let e : effect_of x draft ≡ effect_made rules (machine_of x received net shim) c ids =
-    ap (effect_of x) (is ∙ ap (λ (now : Option OpenTxn). draft_of c now (rules.answer c.op c.args (seen_in_order x ids)) ids) (sym none)) in
+    ap (effect_of x) (is ∙ ap (λ (now : Option OpenTxn). draft_of_call c now (rules.answer c.op c.args (seen_in_order x ids)) ids) (sym none)) in
     let effects : later ≡ x ++ effect_made rules (machine_of x received net shim) c ids ∷ [] = made ∙ ap (λ (f : Effect). x ++ f ∷ []) e in
     let network : after ≡ record net { messages = net.messages ++ package_to_others (length received) c.replica ((next_id x).0 ∷ []) } =
     sent ∙ ap (λ (n : ℕ). let k : Network = record net { messages = net.messages ++ package_to_others n c.replica ((next_id x).0 ∷ []) } in k) grouped in
@@ -170,7 +170,7 @@ by-rules rules promises answer s t event r one two step =
     (subst (λ (a : OpId → List Value → List Effect → Answered). IsStep (record { promises = promises; uses = rules.uses; answer = a }) s event t r) (sym two) step)
 
 -- what an open transaction did stays the same where an effect outside it is made
-pub known-beside : (x : List Effect) (e : Effect) (t : OpenTxn) (own saw : List ℕ) → IsExecution (x ++ e ∷ []) → in_run t.run.0 e.member ≡ false → IsKnown x t own saw → IsKnown (x ++ e ∷ []) t own saw
+pub known-beside : (x : List Effect) (e : Effect) (t : OpenTxn) (own saw : List ℕ) → IsExecution (x ++ e ∷ []) → in_run t.run.0 e.member ≡ false → HasNotesOf x t own saw → HasNotesOf (x ++ e ∷ []) t own saw
 known-beside x e t own saw law out known = record {
   own = record {
     ascending = known.own.ascending;
@@ -197,5 +197,5 @@ known-beside x e t own saw law out known = record {
         let there = effect_at-within x b found.0 found.1 in
         elim (vis-cases x e law a b sees) [ inl old ↦ old | inr new ↦ (let last = new.0 in absurd (omega (arith, there, last))) ]
 
-pub known-plain : (x : List Effect) (e : Effect) (t : OpenTxn) (own saw : List ℕ) → IsExecution (x ++ e ∷ []) → e.member ≡ Alone → IsKnown x t own saw → IsKnown (x ++ e ∷ []) t own saw
+pub known-plain : (x : List Effect) (e : Effect) (t : OpenTxn) (own saw : List ℕ) → IsExecution (x ++ e ∷ []) → e.member ≡ Alone → HasNotesOf x t own saw → HasNotesOf (x ++ e ∷ []) t own saw
 known-plain x e t own saw law alone = known-beside x e t own saw law (ap (in_run t.run.0) alone)

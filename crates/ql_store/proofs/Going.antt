@@ -19,7 +19,7 @@ use Rattle.ql_machine.specs.Calls.{IsCall, blocked, held, makes, makes_own, make
 use Rattle.ql_machine.specs.Deliveries.{IsDelivery, again, applies, cut, gone, waits}
 use Rattle.ql_machine.specs.Steps.{IsStep, absent, already_open, begins, begun_txn, calls, commits, delivers, heals, joins_bare, joins_copy, loses, none_open, none_to_lose, none_to_repeat, repeats, resends, splits}
 use Rattle.ql_machine.specs.Runs.{replicas_after}
-use Rattle.ql_store.specs.Events.{IsInRange}
+use Rattle.ql_store.specs.Events.{IsEventInRange}
 use Rattle.ql_store.specs.State.{AreAmongOps, AreDeclared, GoWithin}
 use Rattle.ql_machine.proofs.Keeping.{nothing-there}
 use Rattle.ql_machine.proofs.Lists.{open-cases, without-cases}
@@ -115,7 +115,7 @@ module _ (n : ℕ) (levels : LevelLists) (s : Machine) (goes : Goes n levels s) 
         ops = goes.ops;
       }
 
-  pub goes-step : (rules : Rules) (event : Event) (t : Machine) (r : Reply) → IsStep rules s event t r → IsInRange n levels event → Goes (replicas_after n event) levels t
+  pub goes-step : (rules : Rules) (event : Event) (t : Machine) (r : Reply) → IsStep rules s event t r → IsEventInRange n levels event → Goes (replicas_after n event) levels t
   goes-step rules _ _ _ (calls session replica object op args after r is) inside = goes-call rules _ after r is inside.1
   goes-step rules _ _ _ (already_open session replica decl objects t is) inside = goes
   goes-step rules _ _ _ (begins session replica decl objects snapshot none less are) inside = record { replicas = goes.replicas; few = goes.few; groups = goes.groups; receivers = goes.receivers; declared = more; ops = goes.ops }

@@ -22,10 +22,10 @@ use Rattle.ql_machine.proofs.Keeping.{keeps-empty, keeps-step, nothing-there}
 use Rattle.ql_session.specs.declared.note.Note.{Note}
 use Rattle.ql_session.specs.Executions.{notes_of}
 use Rattle.ql_shim.specs.Transactions.{own_of, saw_of}
-use Rattle.ql_shim.specs.Viewing.{IsKnown}
+use Rattle.ql_shim.specs.Viewing.{HasNotesOf}
 use Rattle.ql_base.specs.declared.ids.SessId.{SessId}
 use Rattle.ql_machine.specs.declared.open_txn.OpenTxn.{OpenTxn}
-use Rattle.ql_store.specs.Events.{IsInRange}
+use Rattle.ql_store.specs.Events.{IsEventInRange}
 use Rattle.ql_store.specs.Levels.{promises_of}
 use Rattle.ql_store.specs.State.{GoWithin, IsKept, machine_of}
 use Rattle.ql_store.proofs.Going.{Goes, goes-step}
@@ -35,8 +35,8 @@ abbrev pub some_rules : Promises → Rules
 some_rules promises = record { promises = promises; uses = λ decl op. true; answer = λ op args effects. (record { answer = value.Bool true; payload = Nothing }) }
 
 pub kept-step : (levels : LevelLists) (rules : Rules) (s t : Machine) (notes more : List Note) (shim later : Transactions) (event : Event) (r : Reply) → rules.promises ≡ promises_of levels
-    → IsKept levels s notes shim → IsStep rules s event t r → IsInRange (length s.received) levels event → more ≡ notes_of t.effects
-    → ((session : SessId) (u : OpenTxn) → open_of t.open_txns session ≡ Some u → IsKnown t.effects u (own_of later session) (saw_of later session)) → IsKept levels t more later
+    → IsKept levels s notes shim → IsStep rules s event t r → IsEventInRange (length s.received) levels event → more ≡ notes_of t.effects
+    → ((session : SessId) (u : OpenTxn) → open_of t.open_txns session ≡ Some u → HasNotesOf t.effects u (own_of later session) (saw_of later session)) → IsKept levels t more later
 kept-step levels rules s t notes more shim later event r promises kept step inside noted known =
     let start : Goes (length s.received) levels s = record { replicas = refl; few = kept.few; groups = kept.grouped; receivers = kept.receivers; declared = kept.declared; ops = kept.ops } in
     let goes : Goes (replicas_after (length s.received) event) levels t = goes-step (length s.received) levels s start rules event t r step inside in
@@ -103,8 +103,8 @@ made-ok (Err k) P Q A B C p a b d made = tt
 -- what a call keeps that makes a step of the machine, or leaves its state as it was
 pub kept-either : (levels : LevelLists) (s t : Machine) (notes more : List Note) (shim later : Transactions) (event : Event) (result : Result Reply NoMemory) (P : Reply → Type 0)
     → IsKept levels s notes shim → IfOk result P → OnErr result (t ≡ s)
-    → ((r : Reply) → P r → (rules : Rules) × (rules.promises ≡ promises_of levels) × IsStep rules s event t r) → IsInRange (length s.received) levels event → more ≡ notes_of t.effects
-    → ((session : SessId) (u : OpenTxn) → open_of t.open_txns session ≡ Some u → IsKnown t.effects u (own_of later session) (saw_of later session)) → IsKept levels t more later
+    → ((r : Reply) → P r → (rules : Rules) × (rules.promises ≡ promises_of levels) × IsStep rules s event t r) → IsEventInRange (length s.received) levels event → more ≡ notes_of t.effects
+    → ((session : SessId) (u : OpenTxn) → open_of t.open_txns session ≡ Some u → HasNotesOf t.effects u (own_of later session) (saw_of later session)) → IsKept levels t more later
 kept-either levels s t notes more shim later event (Ok r) P kept is same makes inside noted known =
     let step = makes r is in
     kept-step levels step.0 s t notes more shim later event r step.1 kept step.2 inside noted known

@@ -30,7 +30,7 @@ use Rattle.ql_machine.specs.declared.reply.Reply.TheVariants.{Held, Refused, Una
 use Rattle.ql_machine.specs.declared.reply.Why.TheVariants.{Undeclared, Unused}
 use Rattle.ql_machine.specs.Blocking.{IsOf, MissingInTxn, MustHave, MustSee, NoneMissingInTxn}
 use Rattle.ql_machine.specs.Calls.{HasOpen, IsAllowed, IsCall, MayAnswer, after_own, blocked, held, makes_own, unavailable, undeclared, unused}
-use Rattle.ql_machine.specs.Changes.{draft_of, effect_made, member_of}
+use Rattle.ql_machine.specs.Changes.{draft_of_call, effect_made, member_of}
 use Rattle.ql_machine.specs.Rules.{Call, Promises, Rules}
 use Rattle.ql_machine.specs.Sets.{AreThose, IsLeast}
 use Rattle.ql_machine.specs.State.{Machine, NeedsNow, open_of, received_at}
@@ -43,11 +43,11 @@ use Rattle.ql_net.specs.Network.{Network}
 use Rattle.ql_session.specs.declared.note.Note.{Note}
 use Rattle.ql_shim.specs.Changed.{IsNoted}
 use Rattle.ql_shim.specs.Transactions.{Transactions, open_txns, own_of, saw_of}
-use Rattle.ql_shim.specs.Viewing.{IsAsked, IsKnown, IsLeastUnapplied, IsSeen, state_of}
+use Rattle.ql_shim.specs.Viewing.{IsAsked, HasNotesOf, IsLeastUnapplied, IsSeen, state_of}
 use Rattle.ql_store.specs.declared.attempt.Attempt.{Attempt}
 use Rattle.ql_store.specs.declared.attempt.Attempt.TheVariants.{Makes}
 use Rattle.ql_store.specs.Obstacles.{IsObstacle}
-use Rattle.ql_store.specs.Answering.{IsAttempt, IsLeastMissed, IsRefusal, IsViewOf, lesser_of}
+use Rattle.ql_store.specs.Answering.{IsAttempt, IsLeastMissed, IsCallRefusal, IsViewOf, lesser_of}
 use Rattle.ql_store.specs.Levels.{promises_of}
 use Rattle.ql_store.specs.State.{AreKnown, IsKept, StoreState, machine_of}
 use Rattle.ql_store.specs.Viewing.{IsLeastLacking}
@@ -65,11 +65,11 @@ open-session (u ∷ o) s t is = elim (cases_Bool (nat_eq u.session.0 s.0)) [
 -- ---- refusals
 
 module _ (rules : Rules) (s : Machine) (c : Call) (t : OpenTxn) (now : HasOpen s c.session t) where
-  pub refused-undeclared : has_id t.objects c.object.0 ≡ false → IsRefusal rules s c (Some (Refused Undeclared))
+  pub refused-undeclared : has_id t.objects c.object.0 ≡ false → IsCallRefusal rules s c (Some (Refused Undeclared))
   refused-undeclared absent = undeclared t now absent
 
   module _ (declared : has_id t.objects c.object.0 ≡ true) where
-    pub refused-unused : rules.uses t.decl c.op ≡ false → IsRefusal rules s c (Some (Refused Unused))
+    pub refused-unused : rules.uses t.decl c.op ≡ false → IsCallRefusal rules s c (Some (Refused Unused))
     refused-unused other = unused t now declared other
 
     allowed : rules.uses t.decl c.op ≡ true → IsAllowed rules s c
@@ -79,10 +79,10 @@ module _ (rules : Rules) (s : Machine) (c : Call) (t : OpenTxn) (now : HasOpen s
           subst (λ (v : OpenTxn). rules.uses v.decl c.op ≡ true) same used,
         )
 
-    pub refused-below : rules.uses t.decl c.op ≡ true → rules.level c.op ≢ Strong → IsRefusal rules s c None
+    pub refused-below : rules.uses t.decl c.op ≡ true → rules.level c.op ≢ Strong → IsCallRefusal rules s c None
     refused-below used below = record { allowed = allowed used; connected = λ strong. absurd (below strong); free = λ strong. absurd (below strong) }
 
-    pub refused-strong : rules.uses t.decl c.op ≡ true → rules.level c.op ≡ Strong → (o : Option Reply) → IsObstacle s c.replica c.object o → IsRefusal rules s c o
+    pub refused-strong : rules.uses t.decl c.op ≡ true → rules.level c.op ≡ Strong → (o : Option Reply) → IsObstacle s c.replica c.object o → IsCallRefusal rules s c o
     refused-strong used strong None clear = record { allowed = allowed used; connected = λ _. clear.0; free = λ _. clear.1 }
     refused-strong used strong (Some (Unavailable q)) least = unavailable q (allowed used) strong least
     refused-strong used strong (Some (Held session)) both = held session (allowed used) strong both.0 both.1
@@ -225,7 +225,7 @@ module _ (rules : Rules) (s : Machine) (c : Call) (t : OpenTxn) (now : HasOpen s
 
 -- what is known of its own transaction
 known-own : (x : List Effect) (e : Effect) (t : OpenTxn) (own saw : List ℕ) → IsExecution (x ++ e ∷ []) → in_run t.run.0 e.member ≡ true → e.session ≡ t.session → IsAscending e.seen
-    → IsKnown x t own saw → IsKnown (x ++ e ∷ []) t (with_id own (suc (length x))) (union_of saw e.seen)
+    → HasNotesOf x t own saw → HasNotesOf (x ++ e ∷ []) t (with_id own (suc (length x))) (union_of saw e.seen)
 known-own x e t own saw law in_it session ascend known = record {
   own = record {
     ascending = IsAscending-with_id own new known.own.ascending;
@@ -276,15 +276,15 @@ known-noted x e begun before after session t txns now law own_session member asc
     old : open_of (open_txns before) other ≡ Some u
     old = subst (λ (o : List OpenTxn). open_of o other ≡ Some u) noted.open_now is
 
-    by : (b : Bool) → nat_eq other.0 session.0 ≡ b → IsKnown (x ++ e ∷ []) u (own_of after other) (saw_of after other)
+    by : (b : Bool) → nat_eq other.0 session.0 ≡ b → HasNotesOf (x ++ e ∷ []) u (own_of after other) (saw_of after other)
     by true same =
         let one : other ≡ session = same_session other session (eqb-true other.0 session.0 same) in
         let txn : u ≡ t = same_Some u t (sym old ∙ ap (open_of (open_txns before)) one ∙ now) in
         let theirs : t.session ≡ session = same_session t.session session (open-session (open_txns before) session t now) in
         let in_it : in_run t.run.0 e.member ≡ true = ap (in_run t.run.0) member ∙ eq-eqb t.run.0 t.run.0 refl in
         let is_known = known-own x e t (own_of before session) (saw_of before session) law in_it (own_session ∙ sym theirs) ascend (known session t now) in
-        let ended = subst (λ (ids : List ℕ). IsKnown (x ++ e ∷ []) t ids (saw_of after session)) (sym noted.own) (subst (λ (ids : List ℕ). IsKnown (x ++ e ∷ []) t (with_id (own_of before session) (suc (length x))) ids) (sym noted.saw) is_known) in
-        subst (λ (s : SessId). IsKnown (x ++ e ∷ []) u (own_of after s) (saw_of after s)) (sym one) (subst (λ (v : OpenTxn). IsKnown (x ++ e ∷ []) v (own_of after session) (saw_of after session)) (sym txn) ended)
+        let ended = subst (λ (ids : List ℕ). HasNotesOf (x ++ e ∷ []) t ids (saw_of after session)) (sym noted.own) (subst (λ (ids : List ℕ). HasNotesOf (x ++ e ∷ []) t (with_id (own_of before session) (suc (length x))) ids) (sym noted.saw) is_known) in
+        subst (λ (s : SessId). HasNotesOf (x ++ e ∷ []) u (own_of after s) (saw_of after s)) (sym one) (subst (λ (v : OpenTxn). HasNotesOf (x ++ e ∷ []) v (own_of after session) (saw_of after session)) (sym txn) ended)
     by false differ =
         let apart : other.0 ≢ session.0 = λ same. both_ways (nat_eq other.0 session.0) differ (eq-eqb other.0 session.0 same) in
         let out : in_run u.run.0 e.member ≡ false =
@@ -294,7 +294,7 @@ known-noted x e begun before after session t txns now law own_session member asc
 module _ (rules : Rules) (levels : LevelLists) (x : List Effect) (received : List (List ℕ)) (net : Network) (notes : List Note) (shim : Transactions)
     (kept : IsKept levels (machine_of x received net shim) notes shim) (promises : rules.promises ≡ promises_of levels) (c : Call) (t : OpenTxn) (now : open_of (open_txns shim) c.session ≡ Some t)
     (seen : List ℕ) (may : MayAnswer rules (machine_of x received net shim) c seen) (draft : Draft)
-    (is : draft ≡ draft_of c (open_of (open_txns shim) c.session) (rules.answer c.op c.args (seen_in_order x seen)) seen) where
+    (is : draft ≡ draft_of_call c (open_of (open_txns shim) c.session) (rules.answer c.op c.args (seen_in_order x seen)) seen) where
   keeps : Keeps rules.promises kept.start (machine_of x received net shim)
   keeps = subst (λ (p : Promises). Keeps p kept.start (machine_of x received net shim)) (sym promises) kept.keeps
 
@@ -328,10 +328,10 @@ module _ (rules : Rules) (levels : LevelLists) (x : List Effect) (received : Lis
 
 -- ---- how far a call comes
 
-pub attempt-blocks : (rules : Rules) (s : Machine) (c : Call) (ids : List ℕ) (missing : EffId) → IsRefusal rules s c None → IsViewOf rules s c ids (Some missing) → IsCall rules s c s (reply.Blocked missing)
+pub attempt-blocks : (rules : Rules) (s : Machine) (c : Call) (ids : List ℕ) (missing : EffId) → IsCallRefusal rules s c None → IsViewOf rules s c ids (Some missing) → IsCall rules s c s (reply.Blocked missing)
 attempt-blocks rules s c ids missing may view = blocked missing may view.missed
 
-pub attempt-makes : (rules : Rules) (s : Machine) (c : Call) (ids : List ℕ) → IsRefusal rules s c None → IsViewOf rules s c ids None → c.replica.0 < length s.received → MayAnswer rules s c ids
+pub attempt-makes : (rules : Rules) (s : Machine) (c : Call) (ids : List ℕ) → IsCallRefusal rules s c None → IsViewOf rules s c ids None → c.replica.0 < length s.received → MayAnswer rules s c ids
 attempt-makes rules s c ids may view inside = record { may = may; none_missing = view.missed; in_range = inside; view = view.seen }
 
 pub at-fields : (rules : Rules) (s : Machine) (levels : LevelLists) (v : StoreState) (c : Call) (attempt : Attempt) (draft : Draft) → record { levels = levels; machine = s } ≡ v

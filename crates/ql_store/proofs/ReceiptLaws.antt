@@ -123,7 +123,7 @@ receiver-done promises n s m message ready =
     subst (AreDone s.effects s.open_txns) (sym (get_or-set-there s.received message.receiver.0 joined [] ready.receiver)) done
 
 is-new : (promises : Promises) (n : ℕ) (s : Machine) (m : ℕ) (message : Message) → IsReady promises n s m message
-    → ((a : ℕ) → Has message.carried a → has_id (received_at s.received message.receiver.0) a ≡ false) → delivery.IsNew s m message
+    → ((a : ℕ) → Has message.carried a → has_id (received_at s.received message.receiver.0) a ≡ false) → delivery.IsNewDelivery s m message
 is-new promises n s m message ready none = record {
   in_flight = ready.flight;
   passes = ready.passes;

@@ -36,7 +36,7 @@ use Rattle.ql_machine.specs.State.{Machine, committed, received_at, replicas}
 use Rattle.ql_machine.specs.Rules.{Call, Rules}
 use Rattle.ql_machine.specs.Views.{InView, PlainScope, Scope}
 use Rattle.ql_machine.specs.Blocking.{MustSee, NoneMissingInTxn}
-use Rattle.ql_machine.specs.Changes.{draft_of, effect_made, received_by_all}
+use Rattle.ql_machine.specs.Changes.{draft_of_call, effect_made, received_by_all}
 use Rattle.ql_machine.specs.Calls.{HasNoneOpen, IsAllowed, IsCall, MayAnswer, MayCall, after_strong, held, makes_strong, unavailable}
 use Rattle.ql_machine.specs.Kept.{Keeps}
 use Rattle.ql_machine.proofs.Answering.{made}
@@ -118,10 +118,10 @@ module _ (rules : Rules) (start : ℕ) (s : Machine) (c : Call) (is : IsStrongCa
       };
     }
 
-    module _ (draft : Draft) (drafted : draft ≡ draft_of c None (rules.answer c.op c.args (seen_in_order s.effects ids)) ids) where
+    module _ (draft : Draft) (drafted : draft ≡ draft_of_call c None (rules.answer c.op c.args (seen_in_order s.effects ids)) ids) where
       effect-is : effect_of s.effects draft ≡ effect_made rules s c ids
       effect-is =
-          ap (effect_of s.effects) (drafted ∙ ap (λ (now : Option OpenTxn). draft_of c now (rules.answer c.op c.args (seen_in_order s.effects ids)) ids) (sym is.none_open))
+          ap (effect_of s.effects) (drafted ∙ ap (λ (now : Option OpenTxn). draft_of_call c now (rules.answer c.op c.args (seen_in_order s.effects ids)) ids) (sym is.none_open))
 
       pub strong-lawful : IsExecution (s.effects ++ effect_of s.effects draft ∷ [])
       strong-lawful = subst (λ (e : Effect). IsExecution (s.effects ++ e ∷ [])) (sym effect-is) (made rules start s c ids is.keeps strong-answers).grown
@@ -150,12 +150,12 @@ module _ (rules : Rules) (start : ℕ) (s : Machine) (c : Call) (is : IsStrongCa
 
 -- the state after it
 pub strong-after : (rules : Rules) (x later : List Effect) (received lists : List (List ℕ)) (net : Network) (shim : Transactions) (c : Call) (ids done : List ℕ) (draft : Draft)
-    → HasNoneOpen (machine_of x received net shim) c.session → draft ≡ draft_of c None (rules.answer c.op c.args (seen_in_order x ids)) ids
+    → HasNoneOpen (machine_of x received net shim) c.session → draft ≡ draft_of_call c None (rules.answer c.op c.args (seen_in_order x ids)) ids
     → later ≡ x ++ effect_of x draft ∷ [] → lists ≡ received_by_all (received_by_all received done) ((next_id x).0 ∷ [])
     → machine_of later lists net shim ≡ after_strong rules (machine_of x received net shim) c ids done
 strong-after rules x later received lists net shim c ids done draft none_open is made got =
     let e : effect_of x draft ≡ effect_made rules (machine_of x received net shim) c ids =
-    ap (effect_of x) (is ∙ ap (λ (now : Option OpenTxn). draft_of c now (rules.answer c.op c.args (seen_in_order x ids)) ids) (sym none_open)) in
+    ap (effect_of x) (is ∙ ap (λ (now : Option OpenTxn). draft_of_call c now (rules.answer c.op c.args (seen_in_order x ids)) ids) (sym none_open)) in
     let effects : later ≡ x ++ effect_made rules (machine_of x received net shim) c ids ∷ [] = made ∙ ap (λ (f : Effect). x ++ f ∷ []) e in
     λ i. machine_of (effects i) (got i) net shim
 

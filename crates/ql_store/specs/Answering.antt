@@ -8,15 +8,15 @@ use Rattle.ql_machine.specs.State.{Machine, open_of}
 use Rattle.ql_machine.specs.Rules.{Call, Rules}
 use Rattle.ql_machine.specs.Views.{InView}
 use Rattle.ql_machine.specs.Blocking.{IsMissing, NoneMissing}
-use Rattle.ql_machine.specs.Changes.{draft_of}
+use Rattle.ql_machine.specs.Changes.{draft_of_call}
 use Rattle.ql_machine.specs.Calls.{IsCall, MayAnswer, MayCall}
 use Rattle.ql_store.specs.declared.attempt.Attempt.{Attempt}
 use Rattle.ql_store.specs.declared.attempt.Attempt.TheVariants.{Ends, Makes}
 
 -- the reply to a call that is refused at once, or none if it may go on
-abbrev pub IsRefusal : Rules → Machine → Call → Option Reply → Type 0
-IsRefusal rules s c None = MayCall rules s c
-IsRefusal rules s c (Some reply) = IsCall rules s c s reply
+abbrev pub IsCallRefusal : Rules → Machine → Call → Option Reply → Type 0
+IsCallRefusal rules s c None = MayCall rules s c
+IsCallRefusal rules s c (Some reply) = IsCall rules s c s reply
 
 -- the lesser of two ids, or the one that there is
 abbrev pub lesser_of : Option EffId → Option EffId → Option EffId
@@ -39,4 +39,4 @@ abbrev pub IsAttempt : Rules → Machine → Call → Attempt → Type 0
 IsAttempt rules s c (Ends reply) = IsCall rules s c s reply
 IsAttempt rules s c (Makes draft) =
     (seen : List ℕ) × MayAnswer rules s c seen
-    × (draft ≡ draft_of c (open_of s.open_txns c.session) (rules.answer c.op c.args (seen_in_order s.effects seen)) seen)
+    × (draft ≡ draft_of_call c (open_of s.open_txns c.session) (rules.answer c.op c.args (seen_in_order s.effects seen)) seen)

@@ -20,7 +20,7 @@ pub record HasRoom (s : Machine) : Type 0 where
   pub copies : (m : ℕ) (message : Message) → message_at s.messages m ≡ Some message → message.copies + 1 < 2 ^ 32
 
 -- a call can be answered, whatever effects on its object it sees
-abbrev pub IsAnswerable : (OpId → List Value → List Effect → Type 0) → List Effect → Event → Type 0
-IsAnswerable able x (Call session replica object op args) =
+abbrev pub CanBeAnswered : (OpId → List Value → List Effect → Type 0) → List Effect → Event → Type 0
+CanBeAnswered able x (Call session replica object op args) =
     (seen : List ℕ) → ((a : ℕ) → Has seen a → IsOn object (effect_at x a)) → able op args (seen_in_order x seen)
-IsAnswerable able x _ = Unit {0}
+CanBeAnswered able x _ = Unit {0}

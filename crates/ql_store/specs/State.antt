@@ -12,7 +12,7 @@ use Rattle.ql_net.specs.Network.{Network}
 use Rattle.ql_session.specs.declared.note.Note.{Note}
 use Rattle.ql_session.specs.Executions.{notes_of}
 use Rattle.ql_shim.specs.Transactions.{Transactions, open_txns, own_of, saw_of}
-use Rattle.ql_shim.specs.Viewing.{IsKnown}
+use Rattle.ql_shim.specs.Viewing.{HasNotesOf}
 use Rattle.ql_store.specs.Levels.{promises_of}
 
 -- the levels at which a store answers, and its state as the written machine has it
@@ -37,7 +37,7 @@ GoWithin n messages = All (λ message. message.receiver.0 < n) messages
 
 -- what each open transaction did is noted
 abbrev pub AreKnown : List Effect → Transactions → Type 0
-AreKnown x shim = (session : SessId) (t : OpenTxn) → open_of (open_txns shim) session ≡ Some t → IsKnown x t (own_of shim session) (saw_of shim session)
+AreKnown x shim = (session : SessId) (t : OpenTxn) → open_of (open_txns shim) session ≡ Some t → HasNotesOf x t (own_of shim session) (saw_of shim session)
 
 -- open transactions are of the first declared ones
 abbrev pub AreDeclared : ℕ → List OpenTxn → Type 0
@@ -61,7 +61,7 @@ pub record IsKept (levels : LevelLists) (s : Machine) (notes : List Note) (shim 
   pub ops : AreAmongOps (length levels.ops) s.effects
   -- each effect is noted, and so is what each open transaction did
   pub noted : notes ≡ notes_of s.effects
-  pub known : (session : SessId) (t : OpenTxn) → open_of s.open_txns session ≡ Some t → IsKnown s.effects t (own_of shim session) (saw_of shim session)
+  pub known : (session : SessId) (t : OpenTxn) → open_of s.open_txns session ≡ Some t → HasNotesOf s.effects t (own_of shim session) (saw_of shim session)
 
 -- a state that a store may have, at some levels
 abbrev pub IsState : List Effect → List (List ℕ) → Network → Transactions → Type 0

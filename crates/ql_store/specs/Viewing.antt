@@ -14,7 +14,7 @@ use Rattle.ql_holder.specs.Closed.{Has}
 use Rattle.ql_machine.specs.Blocking.{InPast, IsOf}
 use Rattle.ql_machine.specs.Sets.{IsLeast}
 use Rattle.ql_machine.specs.State.{Machine}
-use Rattle.ql_machine.specs.Views.{Applied}
+use Rattle.ql_machine.specs.Views.{HasApplied}
 
 -- What a view must have. At causal: what the session did before on the object. At wide: what is on the object in the
 -- past of the session and of what the view has.
@@ -31,4 +31,4 @@ IsLeastLacking x level session object view (Some least) = IsLeast (λ a. IsWante
 
 -- an effect is on an object, and the replica has applied it
 abbrev pub IsAppliedOn : Machine → ReplicaId → ObjId → ℕ → Type 0
-IsAppliedOn s r o a = IsOn o (effect_at s.effects a) × Applied s r.0 a
+IsAppliedOn s r o a = IsOn o (effect_at s.effects a) × HasApplied s r.0 a

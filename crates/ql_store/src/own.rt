@@ -9,7 +9,7 @@ ghost use Rattle.ql_net.specs.Network.{Network};
 ghost use Rattle.ql_session.specs.Executions.{notes_of};
 ghost use Rattle.ql_shim.specs.Changed.{IsNoted};
 ghost use Rattle.ql_shim.specs.Transactions.{open_txns};
-ghost use Rattle.ql_store.specs.Answering.{IsRefusal, IsViewOf, lesser_of};
+ghost use Rattle.ql_store.specs.Answering.{IsCallRefusal, IsViewOf, lesser_of};
 ghost use Rattle.ql_store.specs.Asking.{call_of};
 ghost use Rattle.ql_store.specs.State.{IsState, machine_of};
 
@@ -39,7 +39,7 @@ pub(crate) fn refusal(
         → length received ≡ length net.now.groups
         → open_of (open_txns shim.now) asked.now.session ≡ Some txn.now
         → rules.uses txn.now.decl asked.now.op ≡ is_used → rules.level asked.now.op ≡ level
-        → IsRefusal rules (machine_of x received net.now shim.now) (call_of asked.now) result }
+        → IsCallRefusal rules (machine_of x received net.now shim.now) (call_of asked.now) result }
 {
     if !txn.objects.has(asked.object.0) {
         return Some(Reply::Refused(Why::Undeclared));

@@ -7,8 +7,8 @@ ghost use Rattle.ql_levels.specs.declared.level.Level.TheVariants.{Strong};
 ghost use Rattle.ql_holder.specs.Closed.{Has};
 ghost use Rattle.ql_store.specs.Asking.{call_of};
 ghost use Rattle.ql_store.specs.Answering.{IsAttempt};
-ghost use Rattle.ql_store.specs.Conditions.{HasRoom, IsAnswerable};
-ghost use Rattle.ql_store.specs.Events.{IsInRange};
+ghost use Rattle.ql_store.specs.Conditions.{HasRoom, CanBeAnswered};
+ghost use Rattle.ql_store.specs.Events.{IsEventInRange};
 ghost use Rattle.ql_store.specs.Levels.{HasLevelOfEach, promises_of, uses_of};
 ghost use Rattle.ql_store.specs.Viewing.{IsAppliedOn};
 ghost use Rattle.ql_machine.specs.declared.open_txn.OpenTxn.{OpenTxn};
@@ -168,10 +168,10 @@ impl<H: Holder> Store<H> {
         typed: &Typed,
         folder: &F,
     ) -> Result<Reply, NoMemory>
-        requires range { IsInRange (length self.old.machine.received) self.old.levels event }
+        requires range { IsEventInRange (length self.old.machine.received) self.old.levels event }
         requires levels { HasLevelOfEach typed.now.program self.old.levels }
         requires room { HasRoom self.old.machine }
-        requires able { IsAnswerable (F.able folder.now) self.old.machine.effects event }
+        requires able { CanBeAnswered (F.able folder.now) self.old.machine.effects event }
         ensures step { IfOk result
             (λ r. (rules : Rules) → rules.promises ≡ promises_of self.old.levels
             → rules.uses ≡ uses_of typed.now.program

@@ -7,7 +7,7 @@ ghost use Rattle.ql_exec.specs.Folding.{seen_in_order};
 ghost use Rattle.ql_holder.specs.Closed.{Has};
 ghost use Rattle.ql_holder.specs.Needs.{AreWhole, IsPackage, JoinsNone};
 ghost use Rattle.ql_machine.specs.declared.reply.Reply.TheVariants as reply;
-ghost use Rattle.ql_machine.specs.Changes.{draft_of, received_by_all};
+ghost use Rattle.ql_machine.specs.Changes.{draft_of_call, received_by_all};
 ghost use Rattle.ql_machine.specs.Sets.{AreThose};
 ghost use Rattle.ql_machine.specs.State.{committed};
 ghost use Rattle.ql_machine.specs.Kept.{AreDone};
@@ -41,7 +41,7 @@ pub(crate) fn strong_draft<F: Folder>(
     ensures seen { IfOk result
         (λ draft. AreThose (λ a. IsOn asked.object (effect_at x.now a)) draft.seen) }
     ensures answered { IfOk result
-        (λ draft. draft ≡ draft_of (call_of asked) None
+        (λ draft. draft ≡ draft_of_call (call_of asked) None
         (F.answered folder.now asked.op asked.args (seen_in_order x.now draft.seen))
         draft.seen) }
 {

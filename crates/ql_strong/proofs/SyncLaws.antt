@@ -16,7 +16,7 @@ use Rattle.ql_holder.specs.declared.arrival.Arrival.TheVariants.{Again, Waits, A
 use Rattle.ql_holder.specs.Arrivals.{IsArrival}
 use Rattle.ql_machine.specs.Changes.{received_by_all}
 use Rattle.ql_machine.specs.Sets.{AreThose}
-use Rattle.ql_strong.specs.Within.{HasReceived, IsUnderWay, IsWithin}
+use Rattle.ql_strong.specs.Within.{HasReceived, IsUnderWay, IsAscendingAmong}
 
 same_bool : (b c : Bool) → (b ≡ true → c ≡ true) → (c ≡ true → b ≡ true) → b ≡ c
 same_bool true c there back = sym (there refl)
@@ -50,7 +50,7 @@ received-package x before ids after id (Applies gain) those is = joined x before
 
 -- ---- through the committed effects
 
-pub way-begins : (received ids : List ℕ) → IsWithin received ids → IsUnderWay received ids 0
+pub way-begins : (received ids : List ℕ) → IsAscendingAmong received ids → IsUnderWay received ids 0
 way-begins received ids within = record { within = within; done = λ i less. absurd (omega (arith, less)) }
 
 -- a receipt leaves those done that were
@@ -86,14 +86,14 @@ way-ends received ids ascending way = same_ids received ids way.within.ascending
 
 -- ---- all holders
 
-union-within : (ids others : List ℕ) → IsAscending others → IsWithin ids others → union_of ids others ≡ others
+union-within : (ids others : List ℕ) → IsAscending others → IsAscendingAmong ids others → union_of ids others ≡ others
 union-within ids others ascending within = same_ids (union_of ids others) others (IsAscending-union ids others ascending) ascending
     (λ a has. elim (in_union-cases ids others a has) [ inl old ↦ within.among a old | inr new ↦ new ])
     (λ a has. in_union-right ids others a has)
 
 -- where each replica has received some of these, with these it has received them alone
 pub all-within : {A : Type 0} (received : A → List ℕ) (holders : List A) (ids : List ℕ) → IsAscending ids
-    → All (λ h. IsWithin (received h) ids) holders → replicate (length holders) ids ≡ received_by_all (map received holders) ids
+    → All (λ h. IsAscendingAmong (received h) ids) holders → replicate (length holders) ids ≡ received_by_all (map received holders) ids
 all-within received [] ids ascending within = refl
 all-within received (h ∷ holders) ids ascending within =
     (λ i. sym (union-within (received h) ids ascending (within 0 h (omega arith))) i ∷ all-within received holders ids ascending (λ k d inside. within (suc k) d (omega (arith, inside))) i)

@@ -10,7 +10,7 @@ abbrev pub AreAmong : List ℕ → List ℕ → Type 0
 AreAmong ids others = (a : ℕ) → Has ids a → Has others a
 
 -- and they ascend
-pub record IsWithin (ids others : List ℕ) : Type 0 where
+pub record IsAscendingAmong (ids others : List ℕ) : Type 0 where
   pub ascending : IsAscending ids
   pub among : AreAmong ids others
 
@@ -23,5 +23,5 @@ pub record HasReceived (x : List Effect) (before after : List ℕ) (id : ℕ) : 
 
 -- the first of these were received, and nothing but them all
 pub record IsUnderWay (received ids : List ℕ) (count : ℕ) : Type 0 where
-  pub within : IsWithin received ids
+  pub within : IsAscendingAmong received ids
   pub done : (i : ℕ) → i < count → Has received (slice_index ids i)

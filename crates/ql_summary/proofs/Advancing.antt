@@ -18,7 +18,7 @@ use Rattle.ql_typing.specs.Operations.{all_ops, op_kinds}
 use Rattle.ql_typing.proofs.Flat.{length-kinds}
 use Rattle.ql_summary.specs.declared.kept.KeptObject.{KeptObject}
 use Rattle.ql_summary.specs.Covering.{ComeLater}
-use Rattle.ql_summary.specs.Keeping.{AreOn, IsThere}
+use Rattle.ql_summary.specs.Keeping.{AreOn, IsEffect}
 use Rattle.ql_summary.specs.Standing.{AreOfType, FitOperations, IsComeTo, IsFormOf, IsKeptOf, StandsFor}
 use Rattle.ql_summary.proofs.IdParts.{has_union}
 use Rattle.ql_summary.proofs.KeptStates.{Agree, forms_agree, on_back, on_other, some_id}
@@ -50,7 +50,7 @@ on_there x o a on = by (effect_at x a) refl on
     by None is on = absurd on
     by (Some e) is on = (e, is, on)
 
-pub there : (x : List Effect) (a : ℕ) (e : Effect) → effect_at x a ≡ Some e → IsThere x a
+pub there : (x : List Effect) (a : ℕ) (e : Effect) → effect_at x a ≡ Some e → IsEffect x a
 there x zero e at = let no : None ≡ Some e = at in cc
 there x (suc k) e at = (omega arith, effect_at-within x (suc k) e at)
 

@@ -9,7 +9,7 @@ use Rattle.ql_exec.specs.Effects.{both, effect_at}
 use Rattle.ql_exec.specs.Folding.{comes_before}
 use Rattle.ql_eval.proofs.EffectOrder.{is_order}
 use Rattle.ql_summary.specs.Covering.{Covers, IsLast, later_of}
-use Rattle.ql_summary.specs.Keeping.{AreThere, IsThere}
+use Rattle.ql_summary.specs.Keeping.{AreEffects, IsEffect}
 
 -- ---- tests of all ids
 
@@ -48,7 +48,7 @@ through l e f not_before before = by (comes_before e f) refl
 beyond : (l n e : Effect) → comes_before l e ≡ false → comes_before l n ≡ true → comes_before n e ≡ false
 beyond l n e not_before before = (is_order (λ (g : Effect). g)).one_way e n (through l e n not_before before)
 
-found : (x : List Effect) (a : ℕ) → IsThere x a → (e : Effect) × (effect_at x a ≡ Some e)
+found : (x : List Effect) (a : ℕ) → IsEffect x a → (e : Effect) × (effect_at x a ≡ Some e)
 found x zero there = absurd (let h = there.0 in omega (arith, h))
 found [] (suc k) there = absurd (let h = there.1 in omega (arith, h))
 found (e ∷ x) (suc zero) there = (e, refl)
@@ -79,7 +79,7 @@ has_end (b ∷ ids) id a = rw (has_end ids id a) (joined (nat_eq b a) (has_id id
     joined true c d = refl
     joined false c d = refl
 
-pub more_last : (x : List Effect) (ids : List ℕ) (last : Option EffId) (next : EffId) → AreThere x (ids ++ next.0 ∷ []) → IsLast x ids last → IsLast x (ids ++ next.0 ∷ []) (Some (later_of x last next))
+pub more_last : (x : List Effect) (ids : List ℕ) (last : Option EffId) (next : EffId) → AreEffects x (ids ++ next.0 ∷ []) → IsLast x ids last → IsLast x (ids ++ next.0 ∷ []) (Some (later_of x last next))
 more_last x ids None next there is =
     let n = found x next.0 (there next.0 (here ids next.0)) in
     let one : IsLast x (next.0 ∷ []) (Some next) = (here [] next.0, λ a has. (let same : next.0 ≡ a = eqb-true next.0 a (only next.0 a has) in subst (λ m. both comes_before (effect_at x next.0) (effect_at x m) ≡ false) same (rw n.1 (never n.0)))) in
@@ -134,7 +134,7 @@ covers_none x ids seen none = subst (λ us. Covers x us seen) (sym none) (record
   later = λ a b e f has hasb lacks at atb. (let no : false ≡ true = has in absurd cc);
 })
 
-pub covers_by_last : (x : List Effect) (ids seen : List ℕ) (last : EffId) → AreThere x ids → AreThere x seen → IsLast x ids (Some last)
+pub covers_by_last : (x : List Effect) (ids seen : List ℕ) (last : EffId) → AreEffects x ids → AreEffects x seen → IsLast x ids (Some last)
     → ((list_all (has_id seen) ids && list_all (λ b. has_id ids b || both comes_before (effect_at x last.0) (effect_at x b)) seen) ≡ true) ↔ Covers x ids seen
 covers_by_last x ids seen last there seen_there is = (
   (λ both_hold.
@@ -164,7 +164,7 @@ covers_by_last x ids seen last there seen_there is = (
 
 -- ---- as two tests, the second of which is made where the first passes
 
-pub covers_then : (x es : List Effect) (ids seen : List ℕ) (last : EffId) (r s : Bool) → AreThere x ids → AreThere x seen → IsLast x ids (Some last) → es ≡ x
+pub covers_then : (x es : List Effect) (ids seen : List ℕ) (last : EffId) (r s : Bool) → AreEffects x ids → AreEffects x seen → IsLast x ids (Some last) → es ≡ x
     → r ≡ list_all (has_id seen) ids → r ≡ true → s ≡ list_all (λ b. has_id ids b || both comes_before (effect_at es last.0) (effect_at es b)) seen → (s ≡ true) ↔ Covers x ids seen
 covers_then x es ids seen last r s there seen_there is same first passes second =
     let law = covers_by_last x ids seen last there seen_there is in
@@ -174,7 +174,7 @@ covers_then x es ids seen last r s there seen_there is same first passes second 
       (λ covered. now ∙ (and_parts (list_all (has_id seen) ids) _ (law.1 covered)).1),
     )
 
-pub covers_else : (x : List Effect) (ids seen : List ℕ) (last : EffId) (r : Bool) → AreThere x ids → AreThere x seen → IsLast x ids (Some last) → r ≡ list_all (has_id seen) ids → r ≡ false → (r ≡ true) ↔ Covers x ids seen
+pub covers_else : (x : List Effect) (ids seen : List ℕ) (last : EffId) (r : Bool) → AreEffects x ids → AreEffects x seen → IsLast x ids (Some last) → r ≡ list_all (has_id seen) ids → r ≡ false → (r ≡ true) ↔ Covers x ids seen
 covers_else x ids seen last r there seen_there is first fails = (
   (λ h. (let no : false ≡ true = sym fails ∙ h in absurd cc)),
   (λ covered. first ∙ (and_parts (list_all (has_id seen) ids) _ ((covers_by_last x ids seen last there seen_there is).1 covered)).0),

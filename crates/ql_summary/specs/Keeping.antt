@@ -10,8 +10,8 @@ use Rattle.ql_exec.specs.Execution.{IsOn}
 use Rattle.ql_summary.specs.declared.kept.KeptObject.{KeptObject}
 
 -- nothing is kept of an object
-abbrev pub nothing : KeptObject
-nothing = record { ids = []; state = [] }
+abbrev pub nothing_kept : KeptObject
+nothing_kept = record { ids = []; state = [] }
 
 -- the ids that are kept of an object
 abbrev pub ids_of : List KeptObject → ObjId → List ℕ
@@ -26,8 +26,8 @@ abbrev pub AreOn : List Effect → ObjId → List ℕ → Type 0
 AreOn x o ids = (a : ℕ) → has_id ids a ≡ true → IsOn o (effect_at x a)
 
 -- an id names an effect
-abbrev pub IsThere : List Effect → ℕ → Type 0
-IsThere x a = (1 ≤ a) × (a ≤ length x)
+abbrev pub IsEffect : List Effect → ℕ → Type 0
+IsEffect x a = (1 ≤ a) × (a ≤ length x)
 
-abbrev pub AreThere : List Effect → List ℕ → Type 0
-AreThere x ids = (a : ℕ) → has_id ids a ≡ true → IsThere x a
+abbrev pub AreEffects : List Effect → List ℕ → Type 0
+AreEffects x ids = (a : ℕ) → has_id ids a ≡ true → IsEffect x a

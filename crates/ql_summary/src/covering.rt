@@ -4,7 +4,7 @@ ghost use Rattle.std.specs.Option.{option_copied};
 ghost use Rattle.ql_base.specs.IdLists.{IsAscending, has_id, with_id};
 ghost use Rattle.ql_exec.specs.Effects.{both, effect_at};
 ghost use Rattle.ql_exec.specs.Folding.{comes_before};
-ghost use Rattle.ql_summary.specs.Keeping.{AreThere, ids_of};
+ghost use Rattle.ql_summary.specs.Keeping.{AreEffects, ids_of};
 ghost use Rattle.ql_summary.specs.Covering.{Covers, IsLast, later_of};
 
 use crate::kept::Kept;
@@ -16,8 +16,8 @@ use std::alloc::Global;
 /// Then the fold over what is seen can continue from the kept state.
 pub fn covers(kept: &Kept, o: ObjId, x: &Execution, seen: &IdSet) -> bool
     requires in_range { o.0 < length kept.now }
-    requires kept { AreThere x.now (ids_of kept.now o) }
-    requires seen { AreThere x.now seen.now }
+    requires kept { AreEffects x.now (ids_of kept.now o) }
+    requires seen { AreEffects x.now seen.now }
     ensures { (result ≡ true) ↔ Covers x.now (ids_of kept.now o) seen.now }
 {
     let ids = kept.ids(o);
@@ -29,7 +29,7 @@ pub fn covers(kept: &Kept, o: ObjId, x: &Execution, seen: &IdSet) -> bool
 
 // The one of some effects that comes last in order of stamp and session.
 fn last_of(x: &Execution, ids: &IdSet) -> Option<EffId>
-    requires { AreThere x.now ids.now }
+    requires { AreEffects x.now ids.now }
     ensures { IsLast x.now ids.now result }
 {
     let mut last = None;

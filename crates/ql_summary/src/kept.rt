@@ -1,5 +1,5 @@
 ghost use Rattle.std.specs.Prelude.{◌≡◌, ◌<◌, Some, length, replicate, set, slice_get, IfOk};
-ghost use Rattle.ql_summary.specs.Keeping.{ids_of, nothing};
+ghost use Rattle.ql_summary.specs.Keeping.{ids_of, nothing_kept};
 
 use ql_base::{IdSet, NoMemory, ObjId};
 use ql_eval::Env;
@@ -44,7 +44,7 @@ impl Model for Kept {
 impl Kept {
     /// Keeps nothing of any of `objects` objects.
     pub fn new(alloc: Global, objects: u32) -> Result<Kept, NoMemory>
-        ensures { IfOk result (λ kept. kept ≡ replicate objects nothing) }
+        ensures { IfOk result (λ kept. kept ≡ replicate objects nothing_kept) }
     {
         let mut empty = Vec::with_capacity(alloc, objects as usize)?;
         for _o in 0..objects {

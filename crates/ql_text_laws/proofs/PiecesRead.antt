@@ -18,7 +18,7 @@ use Rattle.ql_grammar.specs.declared.role.Role.TheVariants.{Plain, Makes, Opens,
 use Rattle.ql_grammar.specs.Tokens.{Marked, marked}
 use Rattle.ql_grammar.specs.ContractGrammar
 use Rattle.ql_grammar.specs.ContractGrammar.{IsRelationWord, ReadsTerm, ReadsTerms, ReadsRelation, Applied, Single, ReadsProp, PropPart, Atom, Whole, ReadsNames, ReadsVar, ReadsVars, ReadsContract}
-use Rattle.ql_text_laws.specs.Printed.{unplaced_name, unplaced_term, unplaced_relation, unplaced_prop, unplaced_var, unplaced, PropFits, Fits}
+use Rattle.ql_text_laws.specs.Printed.{unplaced_name, unplaced_term, unplaced_relation, unplaced_prop, unplaced_var, unplaced, PropFits, FitsSpelling}
 use Rattle.ql_text_laws.proofs.Pieces.{Piece, Blank, Said, marks_of}
 
 -- The pieces, each function with what follows.
@@ -379,5 +379,5 @@ sentence_reads (v ∷ vs) p fits at below =
     }
 
 -- the pieces of a contract read as it, offsets aside
-pub contract_reads : (s : Sentence) → Fits s → (at : ℕ) (below : List Piece) → Reads Sentence ReadsContract unplaced at (contract_pieces s below) below s
+pub contract_reads : (s : Sentence) → FitsSpelling s → (at : ℕ) (below : List Piece) → Reads Sentence ReadsContract unplaced at (contract_pieces s below) below s
 contract_reads s fits at below = sentence_reads s.vars s.body fits.1 at below

@@ -20,7 +20,7 @@ use Rattle.ql_grammar.specs.declared.terminal.Terminal.{Terminal}
 use Rattle.ql_grammar.specs.declared.terminal.Terminal.TheVariants.{CurWord, ForallWord, TrueWord, TxnWord, VisWord, SoWord, SooWord, SameObjWord, EqWord, HbWord, HboWord, OpenBrace, CloseBrace, OpenParen, CloseParen, OpenBracket, CloseBracket, Comma, Colon, Dot, Equals, Arrow, AndMark, OrMark, Bar, Ampersand}
 use Rattle.ql_grammar.specs.declared.role.Role.{Role}
 use Rattle.ql_grammar.specs.declared.role.Role.TheVariants.{Plain, Makes, Opens, Closes}
-use Rattle.ql_text_laws.specs.Printed.{TermFits, PropFits, NameFits, VarFits, Fits}
+use Rattle.ql_text_laws.specs.Printed.{TermFits, PropFits, NameFits, VarFits, FitsSpelling}
 use Rattle.ql_text_laws.proofs.Pieces.{Piece, Said, IsSaid, Stands, text_of, IsQuiet, plain, makes, said_word, said_name, said_mark, said_pair, lone}
 use Rattle.ql_text_laws.proofs.PiecesRead.{term_pieces, relation_terminal, between, comma, relation_pieces, argument_pieces, application_pieces, items_behind, items_pieces, terms_pieces, txn_pieces, in_parens, prop_pieces, name_pieces, operation_pieces, var_pieces, quantifier_pieces, contract_pieces}
 
@@ -256,5 +256,5 @@ module _ (counts : Bool) where
   quantifier_stands (v ∷ vs) fits below stands =
       (word_said _ forall_fixed plain refl, items_stand Var var_pieces comma VarFits comma_stops comma_stands var_stands (v ∷ vs) fits _ refl (dot_said _, stands))
 
-  pub contract_stands : (s : Sentence) → Fits s → (below : List Piece) → Stops below → Stands counts below → Stands counts (contract_pieces s below)
+  pub contract_stands : (s : Sentence) → FitsSpelling s → (below : List Piece) → Stops below → Stands counts below → Stands counts (contract_pieces s below)
   contract_stands s fits below stops stands = quantifier_stands s.vars fits.0 (prop_pieces s.body below) (prop_stands s.body fits.1 below stops stands)

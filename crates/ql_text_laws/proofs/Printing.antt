@@ -8,7 +8,7 @@ use Rattle.ql_grammar.specs.ContractGrammar.{ReadsContract}
 use Rattle.ql_grammar.specs.Limits.{nothing_yet}
 use Rattle.ql_grammar.specs.Tokens.{Marked}
 use Rattle.ql_parse.specs.Parsing.{IsContractText, IsTextAs}
-use Rattle.ql_text_laws.specs.Printed.{unplaced, Fits, IsReadable, IsInGrammar, IsInGrammarAs, OpensFew, prop_nodes}
+use Rattle.ql_text_laws.specs.Printed.{unplaced, FitsSpelling, IsReadable, IsInGrammar, IsInGrammarAs, OpensFew, prop_nodes}
 use Rattle.ql_text_laws.proofs.Pieces.{Piece, text_of, tokens_of, marks_of, Stands, StaysIn, pieces_lex, pieces_lexemes, pieces_stay, stays_counted}
 use Rattle.ql_text_laws.proofs.PiecesRead.{contract_pieces, contract_reads}
 use Rattle.ql_text_laws.proofs.PiecesStand.{contract_stands}
@@ -48,19 +48,19 @@ pub contract_spelled : (s : Sentence) → text_of (contract_pieces s []) ≡ con
 contract_spelled s = contract_spells s [] ∙ append-nil (contract_text s)
 
 -- the pieces of a contract alone are within the limits
-contract_within : (s : Sentence) → Fits s → IsReadable s → StaysIn 0 0 (contract_pieces s [])
+contract_within : (s : Sentence) → FitsSpelling s → IsReadable s → StaysIn 0 0 (contract_pieces s [])
 contract_within s fits readable =
     let few : prop_nodes s.body ≤ MAX_NODES = readable.few_nodes in
     let opens : OpensFew (text_of (contract_pieces s [])) = subst OpensFew (sym (contract_spelled s)) readable.few_brackets in
     subst (StaysIn 0 0) (append-nil (contract_pieces s []))
     (pieces_stay (contract_pieces s []) [] 0 0 (contract_stands true s fits [] refl tt) opens (omega (arith, contract_nodes s)) (λ o n p q. tt))
 
-pub printed_grammar : (s : Sentence) → Fits s → IsInGrammarAgain s
+pub printed_grammar : (s : Sentence) → FitsSpelling s → IsInGrammarAgain s
 printed_grammar s fits =
     let r = contract_reads s fits 0 [] in
     (r.tree, subst (λ bytes. IsInGrammar bytes r.tree) (contract_spelled s) (in_grammar ReadsContract true (contract_pieces s []) (contract_stands true s fits [] refl tt) r.tree r.reads), r.same)
 
-pub printed_text : (s : Sentence) → Fits s → IsReadable s → IsReadAgain s
+pub printed_text : (s : Sentence) → FitsSpelling s → IsReadable s → IsReadAgain s
 printed_text s fits readable =
     let r = contract_reads s fits 0 [] in
     let found = is_text ReadsContract true (contract_pieces s []) (contract_stands true s fits [] refl tt) r.tree r.reads (contract_within s fits readable) in

@@ -19,7 +19,7 @@ use Rattle.ql_grammar.specs.declared.terminal.Terminal.{Terminal}
 use Rattle.ql_grammar.specs.declared.terminal.Terminal.TheVariants.{TypeWord, StateWord, OpWord, ContractWord, AnswerWord, EmitWord, WhenWord, ApplyWord, TransactionWord, UsesWord, OpenParen, CloseParen, Comma, Semicolon, Equals, Assign}
 use Rattle.ql_grammar.specs.declared.role.Role.{Role}
 use Rattle.ql_grammar.specs.declared.role.Role.TheVariants.{Plain, Makes, Opens, Closes, Before}
-use Rattle.ql_text_laws.specs.Printed.{Fits, IsReadable, prop_nodes, OpensFew}
+use Rattle.ql_text_laws.specs.Printed.{FitsSpelling, IsReadable, prop_nodes, OpensFew}
 use Rattle.ql_text_laws.specs.PrintedPrograms.{ExpressionFits, expression_nodes, EachOfEffect, EachOfOperation, EachOfType, EachOfTransaction, EachOf}
 use Rattle.ql_text_laws.proofs.Pieces.{Piece, Blank, Line, Said, text_of, StaysIn, Resets, pieces_stay}
 use Rattle.ql_text_laws.proofs.PiecesRead.{comma, items_behind, items_pieces, name_pieces, contract_pieces}
@@ -100,7 +100,7 @@ expression_stays e few below r =
     (pieces_stay (expression_pieces e []) below 0 0 (expression_stands true e few.fits [] refl tt) text (omega (arith, expression_makes e [])) r)
 
 pub record ContractIsFew (s : Sentence) : Type 0 where
-  pub fits : Fits s
+  pub fits : FitsSpelling s
   pub readable : IsReadable s
 
 contract_stays : (s : Sentence) → ContractIsFew s → (below : List Piece) → Resets below → StaysIn 0 0 (contract_pieces s below)

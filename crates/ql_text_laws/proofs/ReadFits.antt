@@ -27,7 +27,7 @@ use Rattle.ql_parse.specs.Parsing.{IsContractText}
 use Rattle.ql_parse.proofs.Lexemes.{is_open, keyword_other, lexes_each, mark_other, name_taken, other_than}
 use Rattle.ql_text_laws.specs.PrintedPrograms.{TextFits}
 use Rattle.ql_text_laws.proofs.ExpressionStand.{quoted_behind}
-use Rattle.ql_text_laws.specs.Printed.{TermFits, PropFits, NameFits, VarFits, Fits}
+use Rattle.ql_text_laws.specs.Printed.{TermFits, PropFits, NameFits, VarFits, FitsSpelling}
 
 -- the names, numbers and texts among tokens are those of the language
 
@@ -139,12 +139,12 @@ vars_fit (more {vs = vs} {v = v} us t) names =
     let last = var_fits t before.1.1 in
     (each_more VarFits vs v before.0 last.0, last.1)
 
-pub contract_fits_more : {ts rest : List Marked} {s : Sentence} → ReadsContract ts rest s → Named ts → Fits s × Named rest
+pub contract_fits_more : {ts rest : List Marked} {s : Sentence} → ReadsContract ts rest s → Named ts → FitsSpelling s × Named rest
 contract_fits_more (plain p) names = let body = prop_fits p names in ((tt, body.0), body.1)
 contract_fits_more (forall us p) names = let vars = vars_fit us names.1 in let body = prop_fits p vars.1.1 in ((vars.0, body.0), body.1)
 
 -- what is read has a text
-pub read_fits : (bytes : List ℕ) (s : Sentence) → IsContractText bytes s → Fits s
+pub read_fits : (bytes : List ℕ) (s : Sentence) → IsContractText bytes s → FitsSpelling s
 read_fits bytes s text =
     let names : AreKindly (lexemes_of bytes text.tokens) = lexes_kindly bytes refl text.lexes in
     (contract_fits_more text.parses.reads (subst AreKindly (sym text.parses.are) names)).0

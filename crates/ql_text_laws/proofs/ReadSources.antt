@@ -25,7 +25,7 @@ use Rattle.ql_grammar.specs.ExpressionGrammar.{ReadsExpr, ReadsArguments, ExprPa
 use Rattle.ql_grammar.specs.ProgramGrammar.{ReadsBase, ReadsKind, ReadsInit, ReadsField, ReadsFields, ReadsParam, ReadsParams, ReadsAnyParams, ReadsBinding, ReadsBindings, ReadsAssignment, ReadsAssignments, ReadsEffect, ReadsOperation, ReadsOperations, ReadsReplicated, ReadsTypes, ReadsTransaction, ReadsTransactions, ReadsProgram}
 use Rattle.ql_parse.specs.Readers.{lexemes_of}
 use Rattle.ql_parse.specs.Parsing.{IsProgramText}
-use Rattle.ql_text_laws.specs.Printed.{NameFits, Fits, prop_nodes}
+use Rattle.ql_text_laws.specs.Printed.{NameFits, FitsSpelling, prop_nodes}
 use Rattle.ql_text_laws.specs.PrintedPrograms.{TextFits, ExpressionFits, SomeFit, OperandsFit, InitFits, FieldFits, ParamFits, BindingFits, AssignmentFits, EffectFits, OperationFits, TypeFits, TransactionFits, SourceFits, expression_nodes, operand_nodes, EachOfEffect, EachOfOperation, EachOfType, EachOfTransaction, HasFewNodes}
 use Rattle.ql_text_laws.proofs.ExpressionPieces.{number_back, text_back}
 use Rattle.ql_text_laws.proofs.ReadFits.{AreKindly, Named, each_more, contract_fits_more, lexes_kindly}
@@ -171,7 +171,7 @@ expression_in {end} r g =
     record { fits = fits.0; few = omega (arith, left.nodes, left.few); on = record { kindly = fits.1; counts = left.counts; few = left.few; on = left.are } }
 
 record ContractRead (c : Sentence) (end : Counts) (rest : List Marked) : Type 0 where
-  fits : Fits c
+  fits : FitsSpelling c
   few : FewInContract c
   on : GoesOn end rest
 

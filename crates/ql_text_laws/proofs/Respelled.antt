@@ -8,7 +8,7 @@ use Rattle.ql_grammar.specs.Terminals.{is_same}
 use Rattle.ql_grammar.specs.Tokens.{Marked, marked}
 use Rattle.ql_grammar.specs.Limits.{Fault}
 use Rattle.ql_grammar.specs.Table.{Value, APlace, AName, ASpelling, Sym, Word, Placed, ANameOf, Kept, Operator, Do, APart, Then, operator_at, ways, way_on}
-use Rattle.ql_grammar.specs.Machine.{Taken, or_else, operator_taken, lead, first_fit, step, finish}
+use Rattle.ql_grammar.specs.Machine.{Taken, first_taken, operator_taken, lead, first_fit, step, finish}
 use Rattle.ql_grammar.proofs.Wanted.{Has}
 use Rattle.ql_grammar.proofs.Steps.{IsSound, step_sound, EndsSoundly, finish_sound}
 use Rattle.ql_grammar.proofs.Paths.{Path, SameHead, here, take, via}
@@ -42,7 +42,7 @@ operator_alike : (o : Option BinOp) (below : List Sym) (vs ws : List Value) → 
 operator_alike (Some o) below vs ws = (refl, refl)
 operator_alike None below vs ws = tt
 
-or_alike : (a b c d : Option Taken) → SameTaken a b → SameTaken c d → SameTaken (or_else a c) (or_else b d)
+or_alike : (a b c d : Option Taken) → SameTaken a b → SameTaken c d → SameTaken (first_taken a c) (first_taken b d)
 or_alike (Some t) (Some u) c d first second = first
 or_alike None None c d first second = second
 or_alike (Some t) None c d first second = absurd first

@@ -11,7 +11,7 @@ use Rattle.ql_grammar.specs.Tokens.{Marked}
 use Rattle.ql_grammar.specs.ContractGrammar.{Applied, Single, Product, Sum, Atom, Both, Either, Whole}
 use Rattle.ql_grammar.specs.ExpressionGrammar.{Unary, Multiplied, Added, Compared, Conjoined, Disjoined, Chosen}
 use Rattle.ql_grammar.specs.Table.{Value, APlace, AName, ASpelling, Sym, Word, Placed, ANameOf, Kept, Operator, Do, APart, Then, Part, Rest, operator_at, ways, way_on, Term, TermList, RelationAt, PropAt, BarredNames, Variable, VarList, WholeContract, ExprAt, Arguments, BaseKind, AnyKind, Beginning, ListedNames, WholeSource, MoreTerms, MoreFactors, MoreSummands, MoreAnds, MoreOrs, MoreImplied, MoreNames, Operations, MoreVars, MoreTimes, MorePlus, Comparison, MoreConjoined, MoreDisjoined, Called, MoreArguments, MoreFields, SomeParams, MoreParams, MoreListed, MoreBindings, MoreAssignments, Effect, MoreOperations, MoreTypes, MoreTransactions}
-use Rattle.ql_grammar.specs.Machine.{Taken, or_else, operator_taken, lead, first_fit, step}
+use Rattle.ql_grammar.specs.Machine.{Taken, first_taken, operator_taken, lead, first_fit, step}
 use Rattle.ql_grammar.proofs.TerminalLemmas.{same_terminal}
 use Rattle.ql_text_laws.proofs.Respelled.{Walk, stop, walk}
 
@@ -140,7 +140,7 @@ lead_takes (Do f ∷ below) vs k x n h = tt
 lead_takes (APart p ∷ below) vs k x n h = tt
 lead_takes (Then l ∷ below) vs k x n h = tt
 
-or_takes : (k : Terminal) (a b : Option Taken) → TakesToken k a → TakesToken k b → TakesToken k (or_else a b)
+or_takes : (k : Terminal) (a b : Option Taken) → TakesToken k a → TakesToken k b → TakesToken k (first_taken a b)
 or_takes k (Some t) b first second = first
 or_takes k None b first second = second
 

@@ -70,8 +70,8 @@ NameFits name = IsName name.word
 abbrev pub VarFits : Var → Type 0
 VarFits v = NameFits v.name × AllByRecursion NameFits v.ops
 
-abbrev pub Fits : Sentence → Type 0
-Fits s = AllByRecursion VarFits s.vars × PropFits s.body
+abbrev pub FitsSpelling : Sentence → Type 0
+FitsSpelling s = AllByRecursion VarFits s.vars × PropFits s.body
 
 -- The nodes of a tree.
 

@@ -16,7 +16,7 @@ use Rattle.ql_lang.specs.ExpressionSpelling.{expression_text}
 use Rattle.ql_lex.specs.Starts.{most_number}
 use Rattle.ql_grammar.specs.ProgramGrammar.{ReadsProgram}
 use Rattle.ql_parse.specs.declared.fault.ParseFault.{ParseFault}
-use Rattle.ql_text_laws.specs.Printed.{unplaced, unplaced_name, Fits, NameFits, prop_nodes, OpensFew, IsInGrammarAs, IsTreeAgain}
+use Rattle.ql_text_laws.specs.Printed.{unplaced, unplaced_name, FitsSpelling, NameFits, prop_nodes, OpensFew, IsInGrammarAs, IsTreeAgain}
 
 -- Sources that are printed and read again.
 
@@ -133,13 +133,13 @@ EffectFits None = Unit {0}
 EffectFits (Some e) = (0 < length e.binds) × AllByRecursion BindingFits e.binds × ExpressionFits e.test × AllByRecursion AssignmentFits e.stmts
 
 abbrev pub OperationFits : Operation → Type 0
-OperationFits o = NameFits o.name × AllByRecursion ParamFits o.params × Fits o.contract × ExpressionFits o.answer × EffectFits o.effect
+OperationFits o = NameFits o.name × AllByRecursion ParamFits o.params × FitsSpelling o.contract × ExpressionFits o.answer × EffectFits o.effect
 
 abbrev pub TypeFits : Replicated → Type 0
 TypeFits t = NameFits t.name × AllByRecursion FieldFits t.fields × (0 < length t.ops) × AllByRecursion OperationFits t.ops
 
 abbrev pub TransactionFits : Transaction → Type 0
-TransactionFits t = NameFits t.name × (0 < length t.uses) × AllByRecursion NameFits t.uses × Fits t.contract
+TransactionFits t = NameFits t.name × (0 < length t.uses) × AllByRecursion NameFits t.uses × FitsSpelling t.contract
 
 abbrev pub SourceFits : Source → Type 0
 SourceFits p = (0 < length p.types) × AllByRecursion TypeFits p.types × AllByRecursion TransactionFits p.txns

@@ -5,7 +5,7 @@ ghost use Rattle.ql_lang.specs.Spelling.{contract_text};
 ghost use Rattle.ql_lang.specs.Trees.{Sentence};
 ghost use Rattle.ql_parse.specs.declared.fault.ParseFault.{ParseFault};
 ghost use Rattle.ql_parse.specs.Parsing.{IsContractAnswer, IsContractText};
-ghost use Rattle.ql_text_laws.specs.Printed.{Fits, IsInGrammar, IsReadable, IsReadAs, OpensFew, prop_nodes, unplaced};
+ghost use Rattle.ql_text_laws.specs.Printed.{FitsSpelling, IsInGrammar, IsReadable, IsReadAs, OpensFew, prop_nodes, unplaced};
 
 /// A contract that is printed and read again is the same contract, up to source offsets.
 ///
@@ -17,14 +17,14 @@ ghost use Rattle.ql_text_laws.specs.Printed.{Fits, IsInGrammar, IsReadable, IsRe
 /// opens few brackets at once (`again`).
 pub fn printed_again()
     ensures places { (s : Sentence) → contract_text (unplaced s) ≡ contract_text s }
-    ensures grammar { (s : Sentence) → Fits s → (t : Sentence) × IsInGrammar (contract_text s) t
+    ensures grammar { (s : Sentence) → FitsSpelling s → (t : Sentence) × IsInGrammar (contract_text s) t
         × (unplaced t ≡ unplaced s) }
-    ensures fits { (bytes : List ℕ) (s : Sentence) → IsContractText bytes s → Fits s }
+    ensures fits { (bytes : List ℕ) (s : Sentence) → IsContractText bytes s → FitsSpelling s }
     ensures few { (bytes : List ℕ) (s : Sentence) → IsContractText bytes s
         → prop_nodes s.body ≤ MAX_NODES }
-    ensures text { (s : Sentence) → Fits s → IsReadable s → (t : Sentence)
+    ensures text { (s : Sentence) → FitsSpelling s → IsReadable s → (t : Sentence)
         × IsContractText (contract_text s) t × (unplaced t ≡ unplaced s) }
-    ensures answer { (s : Sentence) (r : Result Contract ParseFault) → Fits s → IsReadable s
+    ensures answer { (s : Sentence) (r : Result Contract ParseFault) → FitsSpelling s → IsReadable s
         → IsContractAnswer (contract_text s) r → IsReadAs s r }
     ensures again { (bytes : List ℕ) (s : Sentence) (r : Result Contract ParseFault)
         → IsContractText bytes s → OpensFew (contract_text s) → IsContractAnswer (contract_text s) r

@@ -2,9 +2,9 @@ use Rattle.std.proofs.Common.{◌≡◌, ◌≤◌, ◌+◌, ◌*◌, ℕ, Bool,
 use Rattle.std.proofs.lemmas.Bool.Decides.{nat_tests}
 use Rattle.ql_typing.specs.declared.fault.TypeFault.{TypeFault}
 use Rattle.ql_typing.specs.declared.fault.TypeFault.TheVariants.{Unknown, Twice, Kind, TooMany, TxnClosure, Variables, TxnAtom, NoMemory}
-use Rattle.ql_typing.specs.Faults.{fault_place, rule_of, stands_before, earlier, first_fault, IsRefusal, IsFirstOf, ReportsFirst}
+use Rattle.ql_typing.specs.Faults.{fault_place, rule_number, stands_before, earlier, first_fault, IsRefusal, IsFirstOf, ReportsFirst}
 
-rule_small : (f : TypeFault) → rule_of f ≤ 7
+rule_small : (f : TypeFault) → rule_number f ≤ 7
 rule_small (Unknown at) = omega arith
 rule_small (Twice at) = omega arith
 rule_small (Kind at) = omega arith
@@ -16,14 +16,14 @@ rule_small NoMemory = omega arith
 
 -- place and rule as one number
 key : TypeFault → ℕ
-key f = fault_place f * 8 + rule_of f
+key f = fault_place f * 8 + rule_number f
 
 by_key : (p q r s : ℕ) → r ≤ 7 → s ≤ 7 → (nat_lt p q || (nat_eq p q && nat_lt r s)) ≡ nat_lt (p * 8 + r) (q * 8 + s)
 by_key p q r s r_small s_small = grind (arith, nat_tests)
 
 before-key : (a b : TypeFault) → stands_before a b ≡ nat_lt (key a) (key b)
 unfolding stands_before key
-before-key a b = by_key (fault_place a) (fault_place b) (rule_of a) (rule_of b) (rule_small a) (rule_small b)
+before-key a b = by_key (fault_place a) (fault_place b) (rule_number a) (rule_number b) (rule_small a) (rule_small b)
 
 goes_on : (a b c : TypeFault) → stands_before b a ≡ true → stands_before c b ≡ true → stands_before c a ≡ true
 goes_on a b c x y =

@@ -16,19 +16,19 @@ fault_place (TxnAtom at) = at
 fault_place NoMemory = 0
 
 -- the number of the rule that a fault breaks
-abbrev pub rule_of : TypeFault → ℕ
-rule_of (Unknown at) = 1
-rule_of (Twice at) = 2
-rule_of (Kind at) = 3
-rule_of (TooMany at) = 4
-rule_of (TxnClosure at) = 5
-rule_of (Variables at) = 6
-rule_of (TxnAtom at) = 7
-rule_of NoMemory = 0
+abbrev pub rule_number : TypeFault → ℕ
+rule_number (Unknown at) = 1
+rule_number (Twice at) = 2
+rule_number (Kind at) = 3
+rule_number (TooMany at) = 4
+rule_number (TxnClosure at) = 5
+rule_number (Variables at) = 6
+rule_number (TxnAtom at) = 7
+rule_number NoMemory = 0
 
 -- a is at a lower offset than b, or at the same one and breaks a lower rule
 unfoldable pub stands_before : TypeFault → TypeFault → Bool
-stands_before a b = nat_lt (fault_place a) (fault_place b) || (nat_eq (fault_place a) (fault_place b) && nat_lt (rule_of a) (rule_of b))
+stands_before a b = nat_lt (fault_place a) (fault_place b) || (nat_eq (fault_place a) (fault_place b) && nat_lt (rule_number a) (rule_number b))
 
 -- the first of two faults, if there are any
 unfoldable pub earlier : Option TypeFault → Option TypeFault → Option TypeFault

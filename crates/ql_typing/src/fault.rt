@@ -1,5 +1,5 @@
 ghost use Rattle.std.specs.Prelude.{◌≡◌};
-ghost use Rattle.ql_typing.specs.Faults.{fault_place, rule_of, stands_before, earlier};
+ghost use Rattle.ql_typing.specs.Faults.{fault_place, rule_number, stands_before, earlier};
 
 use ql_base::NoMemory;
 use std::alloc::{AllocError, AllocFailed};
@@ -76,7 +76,7 @@ impl TypeFault {
 
     /// The number of the rule that is broken.
     pub(crate) fn rule(self) -> u8
-        ensures { result ≡ rule_of self }
+        ensures { result ≡ rule_number self }
     {
         match self {
             TypeFault::Unknown(_) => 1,

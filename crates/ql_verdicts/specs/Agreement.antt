@@ -8,7 +8,7 @@ use Rattle.ql_machine.specs.Calls.{IsCall}
 use Rattle.ql_machine.specs.Rules.{Call, Rules}
 use Rattle.ql_machine.specs.Sets.{AreThose}
 use Rattle.ql_machine.specs.State.{Machine, committed, received_at}
-use Rattle.ql_machine.specs.Views.{Applied, InView}
+use Rattle.ql_machine.specs.Views.{HasApplied, InView}
 use Rattle.ql_machine.specs.Promised.{IsPlain, at_replica}
 
 -- The first replicas of a state agree. A call outside any transaction and below strong is plain.
@@ -16,7 +16,7 @@ pub record Agree (rules : Rules) (replicas : ℕ) (s : Machine) : Type 0 where
   -- each has received exactly the committed effects
   pub received : (r : ℕ) → r < replicas → AreThose (λ a. committed s.effects s.open_txns a ≡ true) (received_at s.received r)
   -- and applied them
-  pub applied : (r : ℕ) → r < replicas → (a : ℕ) → Applied s r a ↔ (committed s.effects s.open_txns a ≡ true)
+  pub applied : (r : ℕ) → r < replicas → (a : ℕ) → HasApplied s r a ↔ (committed s.effects s.open_txns a ≡ true)
   -- a plain call is blocked at none of them
   pub not_blocked : (c : Call) → IsPlain rules s c → c.replica.0 < replicas → (a : EffId) (after : Machine) → IsCall rules s c after (Blocked a) → ⊥
   -- sees the same effects at each

@@ -15,7 +15,7 @@ use Rattle.ql_exec.specs.Relations.{inside}
 use Rattle.ql_formula.specs.Truth.{Holds, HoldsTxn, IsFirstFalse, none_inside}
 use Rattle.ql_verify.specs.Work.{runs_of}
 use Rattle.ql_verify.specs.Verdicts.{AllOpsHold, AllTxnsHold, IsOpBreach, IsTxnBreach, OpHolds}
-use Rattle.ql_verify.specs.Firsts.{AllHold, AreFalse, Found, IsAhead, IsFalseOf, IsFirstBelow, IsFirstOf, earlier}
+use Rattle.ql_verify.specs.Firsts.{AllHold, AreFalse, FoundRun, IsAhead, IsFalseOf, IsFirstBelow, IsFirstRunOf, earlier}
 
 -- effects
 module _ (p : Program) (x : List Effect) where
@@ -106,7 +106,7 @@ module _ (x : List Effect) (f : Resolved) where
       by (inl g) = let no : ⊥ = cc in absurd no
       by (inr g) = g
 
-  pub first_left : (runs : List ℕ) (run : ℕ) (rest places : List ℕ) → IsFirstFalse x (inside x run) 0 f places → Left runs (run ∷ rest) → IsFirstOf x f runs run places
+  pub first_left : (runs : List ℕ) (run : ℕ) (rest places : List ℕ) → IsFirstFalse x (inside x run) 0 f places → Left runs (run ∷ rest) → IsFirstRunOf x f runs run places
   first_left runs run rest places false_of l = record {
     member = l.1 run (first_member run rest);
     is_false = false_of;
@@ -121,22 +121,22 @@ module _ (x : List Effect) (f : Resolved) where
       by other lt (inl h) = here other lt (member_cases run rest other h)
       by other lt (inr h) = h
 
-  pub first_at : (runs : List ℕ) (i : ℕ) (places : List ℕ) → i < length runs → IsFirstFalse x (inside x (get_or runs i 0)) 0 f places → Left runs (drop i runs) → IsFirstOf x f runs (get_or runs i 0) places
+  pub first_at : (runs : List ℕ) (i : ℕ) (places : List ℕ) → i < length runs → IsFirstFalse x (inside x (get_or runs i 0)) 0 f places → Left runs (drop i runs) → IsFirstRunOf x f runs (get_or runs i 0) places
   first_at runs i places lt false_of l = first_left runs (get_or runs i 0) (drop (suc i) runs) places false_of (subst (Left runs) (drop-cons runs i 0 lt) l)
 
 -- declared transactions
-abbrev pub Reports : List Effect → Resolved → List ℕ → Option Found → Type 0
-Reports x f runs found = MatchOption found (AllHold x f runs) (λ first. IsFirstOf x f runs first.0.0 (map (λ id. id.0) first.1))
+abbrev pub Reports : List Effect → Resolved → List ℕ → Option FoundRun → Type 0
+Reports x f runs found = MatchOption found (AllHold x f runs) (λ first. IsFirstRunOf x f runs first.0.0 (map (λ id. id.0) first.1))
 
 module _ (p : Program) (x : List Effect) where
   pub none_below : IsFirstBelow p x 0 None
   none_below = record { found = tt; ahead = λ name f run lt. absurd (omega arith) }
 
   module _ (d : ℕ) (f : Resolved) (contract : slice_get (txn_contracts p) d ≡ Some f) where
-    false_of : (first : Found) → IsFirstOf x f (runs_of x d) first.0.0 (map (λ id. id.0) first.1) → IsFalseOf p x first
+    false_of : (first : FoundRun) → IsFirstRunOf x f (runs_of x d) first.0.0 (map (λ id. id.0) first.1) → IsFalseOf p x first
     false_of first h = record { contract = f; judged = record { name = d; begun = h.member; contract = contract }; is_false = h.is_false }
 
-    further : (new old : Option Found) → AreFalse p x new → ((run : ℕ) → IsAhead run new → IsAhead run old) → ((run : ℕ) → has_id (runs_of x d) run ≡ true → IsAhead run new → HoldsTxn x f run)
+    further : (new old : Option FoundRun) → AreFalse p x new → ((run : ℕ) → IsAhead run new → IsAhead run old) → ((run : ℕ) → has_id (runs_of x d) run ≡ true → IsAhead run new → HoldsTxn x f run)
         → IsFirstBelow p x d old → IsFirstBelow p x (d + 1) new
     further new old is_false before own l = record { found = is_false; ahead = λ name g run lt at begun ahead. by name g run lt at begun ahead (nat_lt name d) refl }
       where
@@ -147,7 +147,7 @@ module _ (p : Program) (x : List Effect) where
             let same : f ≡ g = let there : slice_get (txn_contracts p) d ≡ Some g = subst (λ n. slice_get (txn_contracts p) n ≡ Some g) here at in cc in
             subst (λ h. HoldsTxn x h run) same (own run (subst (λ n. has_id (runs_of x n) run ≡ true) here begun) ahead)
 
-    pub more_below : (first found : Option Found) → Reports x f (runs_of x d) found → IsFirstBelow p x d first → IsFirstBelow p x (d + 1) (earlier first found)
+    pub more_below : (first found : Option FoundRun) → Reports x f (runs_of x d) found → IsFirstBelow p x d first → IsFirstBelow p x (d + 1) (earlier first found)
     more_below None None h l = further None None tt (λ run a. a) (λ run begun a. h run begun) l
     more_below None (Some b) h l = further (Some b) None (false_of b h) (λ run a. tt) (λ run begun a. h.below run a begun) l
     more_below (Some a) None h l = further (Some a) (Some a) l.found (λ run q. q) (λ run begun q. h run begun) l
@@ -160,7 +160,7 @@ module _ (p : Program) (x : List Effect) where
   named_below : (d name : ℕ) (f : Resolved) → length p.txns ≤ d → slice_get (txn_contracts p) name ≡ Some f → name < d
   named_below d name f past at = let lt = slice_get_within (txn_contracts p) name f at in omega (arith, lt, past, length-map p.txns (txn_contract (op_words p.types)))
 
-  pub first_of_all : (d : ℕ) (first : Option Found) → length p.txns ≤ d → IsFirstBelow p x d first → MatchOption first (AllTxnsHold p x) (λ found. IsTxnBreach p x found.0.0 (map (λ id. id.0) found.1))
+  pub first_of_all : (d : ℕ) (first : Option FoundRun) → length p.txns ≤ d → IsFirstBelow p x d first → MatchOption first (AllTxnsHold p x) (λ found. IsTxnBreach p x found.0.0 (map (λ id. id.0) found.1))
   first_of_all d None past l = λ run f j. l.ahead j.name f run (named_below d j.name f past j.contract) j.contract j.begun tt
   first_of_all d (Some first) past l =
       let found = l.found in

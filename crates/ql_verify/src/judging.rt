@@ -3,7 +3,7 @@ ghost use Rattle.ql_base.specs.IdLists.{IsAscending};
 ghost use Rattle.ql_lang.specs.Formulas.{resolved_of};
 ghost use Rattle.ql_formula.specs.Tables.{IsTableOf};
 ghost use Rattle.ql_verify.specs.Verdicts.{AllOpsHold, AllTxnsHold, AreOfProgram, IsOpBreach, IsTxnBreach};
-ghost use Rattle.ql_verify.specs.Firsts.{AllHold, IsFirstOf, earlier};
+ghost use Rattle.ql_verify.specs.Firsts.{AllHold, IsFirstRunOf, earlier};
 
 use crate::runs::runs_of;
 use ql_base::{DeclId, EffId, NoMemory, RunId};
@@ -66,7 +66,7 @@ fn first_among(
     requires tables { IsTableOf relations.now execution.now }
     requires ascending { IsAscending runs.now }
     ensures { MatchOption result (AllHold execution.now (resolved_of contract.now) runs.now)
-        (λ first. IsFirstOf execution.now (resolved_of contract.now) runs.now first.0.0
+        (λ first. IsFirstRunOf execution.now (resolved_of contract.now) runs.now first.0.0
         (map (λ id. id.0) first.1)) }
 {
     for run in runs {

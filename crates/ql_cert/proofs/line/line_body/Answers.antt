@@ -3,13 +3,13 @@ use Rattle.std.specs.List.{AllByRecursion}
 use Rattle.std.specs.Option.{option_map}
 use Rattle.ql_lines.specs.Fields.{fields_of}
 use Rattle.ql_cert.specs.Spelling.{IsHint, hint_field}
-use Rattle.ql_cert.specs.Readings.{IsClauseBefore, IsRead, before_colon}
+use Rattle.ql_cert.specs.Readings.{IsClauseBefore, IsReadField, before_colon}
 use Rattle.ql_cert.specs.OneField.{same_parts}
 use Rattle.ql_cert.proofs.line.line_body.Goals as goal
 
 -- what a reader's answer says, where it is another option
-said : {X Y F : Type 0} (Fits : Y → Type 0) (spell : Y → F) (fields : F) (see : X → Y) (o p : Option X) → o ≡ p → IsRead Fits spell fields (option_map see o) → IsRead Fits spell fields (option_map see p)
-said Fits spell fields see o p e h = subst (λ q. IsRead Fits spell fields (option_map see q)) e h
+said : {X Y F : Type 0} (Fits : Y → Type 0) (spell : Y → F) (fields : F) (see : X → Y) (o p : Option X) → o ≡ p → IsReadField Fits spell fields (option_map see o) → IsReadField Fits spell fields (option_map see p)
+said Fits spell fields see o p e h = subst (λ q. IsReadField Fits spell fields (option_map see q)) e h
 
 pub returns-in_default : goal.returns-in_default
 returns-in_default c = λ l fits e.

@@ -2,7 +2,7 @@ use Rattle.std.proofs.lemmas.Result.{err_from_is_err_and}
 use Rattle.std.proofs.Common.{◌++◌, List, None, ap, subst, ◌∙◌}
 use Rattle.ql_lines.specs.Fields.{fields_of, Fields}
 use Rattle.ql_cnf.specs.declared.lit.Lit.{Lit}
-use Rattle.ql_cert.specs.Readings.{IsNext, IsRead}
+use Rattle.ql_cert.specs.Readings.{IsNext, IsReadField}
 use Rattle.ql_cert.specs.Spelling.{clause_fields, lit_field}
 use Rattle.ql_cert.proofs.ProofRefusals.{no_literals}
 use Rattle.ql_cert.proofs.line.literals.Goals as goal
@@ -12,7 +12,7 @@ returns-in_default-next_literal c =
     let read = c.loop-field.literals.items in
     let here = c.loop-field.invariant.0 ∙ ap (λ (r : Fields). clause_fields read ++ r) c.in-Some.ensures.fields in
     no_literals read c.in-Some.field.now (fields_of c.in-Some.remaining.now) (fields_of c.args.text.now) here c.loop-field.invariant.1
-    (subst (λ (b : List Lit). IsRead (IsNext b) lit_field c.in-Some.field.now None) c.as_slice.ensures.value c.in_default-next_literal.ensures)
+    (subst (λ (b : List Lit). IsReadField (IsNext b) lit_field c.in-Some.field.now None) c.as_slice.ensures.value c.in_default-next_literal.ensures)
 
 pub returns-in_err-push : goal.returns-in_err-push
 returns-in_err-push c = let p = err_from_is_err_and c.from_residual.result c.from_residual.ensures.1 in rw p.1 tt

@@ -6,15 +6,15 @@ use Rattle.ql_lines.specs.Fields.{fields_of}
 use Rattle.ql_cnf.specs.declared.lit.Lit.{Lit}
 use Rattle.ql_cnf.specs.Literals.{clause_of}
 use Rattle.ql_cnf.specs.Satisfaction.{AreInRange, with_clause}
-use Rattle.ql_cert.specs.Readings.{IsRead}
+use Rattle.ql_cert.specs.Readings.{IsReadField}
 use Rattle.ql_cert.specs.Spelling.{IsClause, clause_fields}
 use Rattle.ql_cert.proofs.ProofRefusals.{given_after_lines, given_out_of_range, gives, no_clause_given}
 use Rattle.ql_cert.proofs.proof_reader.given.Goals as goal
 
 -- what the reader of literals answered, where it is another option
-said : (fields : List (List ℕ)) (o p : Option (Vec Lit Global)) → o ≡ p → IsRead IsClause clause_fields fields (option_map (λ (v : Vec Lit Global). v.items) o)
-    → IsRead IsClause clause_fields fields (option_map (λ (v : Vec Lit Global). v.items) p)
-said fields o p e h = subst (λ q. IsRead IsClause clause_fields fields (option_map (λ (v : Vec Lit Global). v.items) q)) e h
+said : (fields : List (List ℕ)) (o p : Option (Vec Lit Global)) → o ≡ p → IsReadField IsClause clause_fields fields (option_map (λ (v : Vec Lit Global). v.items) o)
+    → IsReadField IsClause clause_fields fields (option_map (λ (v : Vec Lit Global). v.items) p)
+said fields o p e h = subst (λ q. IsReadField IsClause clause_fields fields (option_map (λ (v : Vec Lit Global). v.items) q)) e h
 
 pub returns-then-not-is_empty : goal.returns-then-not-is_empty
 returns-then-not-is_empty c =

@@ -6,7 +6,7 @@ use Rattle.ql_base.specs.IdLists.{has_id}
 use Rattle.ql_exec.specs.declared.effect.Effect.{Effect}
 use Rattle.ql_exec.specs.Relations.{vis, leads}
 use Rattle.ql_formula.specs.declared.rows.Key.{Key}
-use Rattle.ql_formula.specs.Tables.{HasLasts, IsRow, IsClosedPart, key_of, step_of}
+use Rattle.ql_formula.specs.Tables.{HasLasts, IsTableRow, IsClosedPart, key_of, step_of}
 use Rattle.ql_formula.proofs.RowLaws.{seen_within, vis_cell, none_yet, last_steps, some_too, all_steps, row_done, step_forward, step_of_seen}
 use Rattle.ql_formula.proofs.rows.closure_row.Goals as goal
 
@@ -77,7 +77,7 @@ returns-clause-row c =
     let all = all_steps x law closure c.args.keys.now _ n row last c.requires.keys c.requires.within count whole is_last
     (some_too last (λ k. get_or c.visit_last.new.row k false ≡ true) (λ k. get_or row k false ≡ true) c.visit_seen.ensures.kept c.visit_last.ensures.has)
     (λ k is. c.visit_seen.ensures.has k (sees (suc k) ∙ is)) in
-    subst (λ (m : ℕ). IsRow (leads step) (suc m) row) count
+    subst (λ (m : ℕ). IsTableRow (leads step) (suc m) row) count
     (row_done step forward row whole (λ k is. all k (subst (λ (m : ℕ). step (suc k) (suc m) ≡ true) count is)))
 
 pub returns-clause-lasts : goal.returns-clause-lasts

@@ -2,7 +2,7 @@ use Rattle.std.proofs.lemmas.Result.{err_from_is_err_and}
 use Rattle.std.proofs.Common.{◌≡◌, ◌∙◌, ◌+◌, ◌∷◌, [], ℕ, suc, List, Bool, length, take, sym, ap, subst, arith, length-append}
 use Rattle.ql_exec.specs.Relations.{leads}
 use Rattle.ql_formula.specs.declared.rows.Closure.{Closure}
-use Rattle.ql_formula.specs.Tables.{AreRows, HasLasts, IsRow, step_of}
+use Rattle.ql_formula.specs.Tables.{AreRows, HasLasts, IsTableRow, step_of}
 use Rattle.ql_formula.proofs.RowLaws.{rows_push}
 use Rattle.ql_formula.proofs.rows.closure_rows.Goals as goal
 
@@ -16,8 +16,8 @@ loop-k-preserved c =
     let pushed = c.in_ok-push.ensures.items in
     let count : length c.deref.result.now ≡ c.loop-k._k = ap length c.deref.ensures.value ∙ h.0 in
     let next : suc (length c.deref.result.now) ≡ c.loop-k._k + 1 = omega (arith, count) in
-    let made = subst (λ (closure : Closure). IsRow (leads (step_of closure effects)) (suc (length c.deref.result.now)) row) h.1 c.in_ok-closure_row.ensures.row in
-    let one = subst (λ (l : List (List Bool)). IsRow rel (suc (length l)) row) c.deref.ensures.value made in (
+    let made = subst (λ (closure : Closure). IsTableRow (leads (step_of closure effects)) (suc (length c.deref.result.now)) row) h.1 c.in_ok-closure_row.ensures.row in
+    let one = subst (λ (l : List (List Bool)). IsTableRow rel (suc (length l)) row) c.deref.ensures.value made in (
       omega (arith, ap length pushed, length-append rows (row ∷ []), h.0),
       c.closure_row.ensures.closure ∙ h.1,
       subst (λ (n : ℕ). HasLasts c.closure_row.new.lasts (take n c.args.keys.now)) next c.in_ok-closure_row.ensures.lasts,

@@ -4,7 +4,7 @@ use Rattle.std.proofs.lemmas.List.{get_or_default}
 use Rattle.ql_base.specs.IdLists.{has_id}
 use Rattle.ql_base.proofs.IdLemmas.{has_id-there}
 use Rattle.ql_exec.specs.Relations.{leads}
-use Rattle.ql_formula.specs.Tables.{IsRow}
+use Rattle.ql_formula.specs.Tables.{IsTableRow}
 use Rattle.ql_formula.proofs.rows.visit_seen.Goals as goal
 
 pub overflow_sub-seen : goal.overflow_sub-seen
@@ -74,7 +74,7 @@ loop-left-preserved c =
           ],
       λ step forward are steps start.
           c.visit.ensures.closed step forward
-          (subst (λ (n : ℕ). IsRow (leads step) (suc n) earlier) (sym long) (subst (λ (r : List Bool). IsRow (leads step) (suc (id - 1)) r) (sym read) (are (id - 1) inside)))
+          (subst (λ (n : ℕ). IsTableRow (leads step) (suc n) earlier) (sym long) (subst (λ (r : List Bool). IsTableRow (leads step) (suc (id - 1)) r) (sym read) (are (id - 1) inside)))
           (subst (λ (n : ℕ). step (suc (length earlier)) (suc n) ≡ true) (sym same) (subst (λ (a : ℕ). step a (suc (length c.args.row.now)) ≡ true) (sym is_id) (steps id there)))
           (c.loop-left.invariant.4 step forward are steps start),
     )

@@ -1,6 +1,6 @@
 use Rattle.std.proofs.lemmas.Result.{err_from_is_err_and}
 use Rattle.std.proofs.Common.{◌+◌, ◌<◌, ◌≤◌, List, length, get_or, refl, subst, sym}
-use Rattle.ql_ranges.specs.Places.{Adds, IsPlace}
+use Rattle.ql_ranges.specs.Places.{Adds, IsRangeIndex}
 use Rattle.ql_ranges.specs.declared.ranges.IdRange.{IdRange}
 use Rattle.ql_ranges.proofs.Edits.{inserted-adds, adds-ids}
 use Rattle.ql_ranges.proofs.ranges.insert_in.Goals as goal
@@ -11,7 +11,7 @@ added c =
     let at = c.place_of-at.result in
     subst (λ (more : List IdRange). Adds xs c.args.id more) (sym c.in_ok-insert.ensures.items)
     (inserted-adds xs at c.args.id (record { from = c.args.id; to = c.args.id }) c.requires
-    (subst (λ (l : List IdRange). IsPlace l c.args.id at) c.deref.ensures.value c.place_of-at.ensures) refl refl
+    (subst (λ (l : List IdRange). IsRangeIndex l c.args.id at) c.deref.ensures.value c.place_of-at.ensures) refl refl
     (subst (λ (l : List IdRange). (d : IdRange) → at < length l → c.args.id + 2 ≤ (get_or l at d).from) c.deref-2.ensures.value c.if-is_free.ensures))
 
 pub returns-in_ok-insert-clause-apart : goal.returns-in_ok-insert-clause-apart

@@ -1,11 +1,11 @@
 use Rattle.std.proofs.Common.{◌≡◌, ◌+◌, ◌<◌, ℕ, Bool, true, false, List, length, get_or, nat_lt, ap, sym, ◌∙◌, arith}
 use Rattle.std.proofs.lemmas.Bool.{ltb-true, ltb-false}
 use Rattle.std.proofs.lemmas.List.{get_or_default}
-use Rattle.ql_ranges.specs.Places.{IsFree}
+use Rattle.ql_ranges.specs.Places.{IsAboveGap}
 use Rattle.ql_ranges.specs.declared.ranges.IdRange.{IdRange}
 use Rattle.ql_ranges.proofs.ranges.is_free.Goals as goal
 
-free-from : (xs : List IdRange) (at id : ℕ) (r : IdRange) (free : Bool) → at < length xs → r ≡ get_or xs at r → free ≡ nat_lt (id + 1) r.from → IsFree xs at id free
+free-from : (xs : List IdRange) (at id : ℕ) (r : IdRange) (free : Bool) → at < length xs → r ≡ get_or xs at r → free ≡ nat_lt (id + 1) r.from → IsAboveGap xs at id free
 free-from xs at id r true inside is test = λ d _.
     let less = ltb-true (id + 1) r.from (sym test) in
     let here : (get_or xs at d).from ≡ r.from = ap (λ (s : IdRange). s.from) (get_or_default xs at d r inside ∙ sym is) in

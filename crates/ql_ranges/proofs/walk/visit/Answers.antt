@@ -4,14 +4,14 @@ use Rattle.ql_exec.specs.Relations.{vis}
 use Rattle.ql_holder.specs.Closed.{Has}
 use Rattle.ql_ranges.specs.Ranges.{ids_of}
 use Rattle.ql_ranges.specs.Reach.{InEither}
-use Rattle.ql_ranges.specs.Walks.{GoesOn}
+use Rattle.ql_ranges.specs.Walks.{WalksOn}
 use Rattle.ql_ranges.proofs.NeighbourLaws.{seen-vis, vis-seen, vis-need}
 use Rattle.ql_ranges.proofs.WalkLaws.{goes-with, goes-along, on-ok, on-ok-both}
 use Rattle.ql_ranges.proofs.ReachLaws.{visited-from, below-more}
 use Rattle.ql_ranges.proofs.walk.visit.Goals as goal
 
 -- what the effect sees and the one before it were met, and no more is due
-on_asked : (c : goal.Then-has) → GoesOn c.args.effects.now c.args.e (ids_of c.args.walk.now.found) c.args.walk.now.due.items (ids_of c.meet_before.new.walk.found) c.meet_before.new.walk.due.items
+on_asked : (c : goal.Then-has) → WalksOn c.args.effects.now c.args.e (ids_of c.args.walk.now.found) c.args.walk.now.due.items (ids_of c.meet_before.new.walk.found) c.meet_before.new.walk.due.items
 on_asked c =
     let x = c.args.effects.now in
     let seen = goes-with x (ids_of c.args.search.now.known.now) c.items.result.now (ids_of c.args.walk.now.found) c.args.walk.now.due.items (ids_of c.meet_each.new.walk.found) c.meet_each.new.walk.due.items c.args.e
@@ -25,7 +25,7 @@ seen_asked c a is =
     c.in_ok-meet_each.ensures.met a (subst (λ (l : List ℕ). Has l a) (sym c.items.ensures.same) (vis-seen c.args.effects.now c.args.e a c.effect.result.now c.effect.ensures is))
 
 -- the same, before its transaction
-on_other : (c : goal.After-meet_above) → GoesOn c.args.effects.now c.args.e (ids_of c.args.walk.now.found) c.args.walk.now.due.items (ids_of c.meet_before.new.walk.found) c.meet_before.new.walk.due.items
+on_other : (c : goal.After-meet_above) → WalksOn c.args.effects.now c.args.e (ids_of c.args.walk.now.found) c.args.walk.now.due.items (ids_of c.meet_before.new.walk.found) c.meet_before.new.walk.due.items
 on_other c =
     let x = c.args.effects.now in
     let seen = goes-with x (ids_of c.args.search.now.known.now) c.items.result.now (ids_of c.args.walk.now.found) c.args.walk.now.due.items (ids_of c.meet_each.new.walk.found) c.meet_each.new.walk.due.items c.args.e

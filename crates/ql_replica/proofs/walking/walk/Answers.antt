@@ -3,7 +3,7 @@ use Rattle.ql_base.specs.IdLists.{union_of}
 use Rattle.ql_holder.specs.Closed.{Has}
 use Rattle.ql_holder.proofs.Packages.{package-whole}
 use Rattle.ql_ranges.specs.Ranges.{ids_of}
-use Rattle.ql_replica.specs.Progress.{Advances, AreKnown}
+use Rattle.ql_replica.specs.Progress.{Advances, IsAppliedSoFar}
 use Rattle.ql_replica.proofs.ReceiptLaws.{known-more, walked-in, advances-union, least-missing}
 use Rattle.ql_replica.proofs.walking.walk.Goals as goal
 use Rattle.ql_holder.specs.Missing.{IsFirstMissing}
@@ -24,7 +24,7 @@ returns-clause-walked c = λ a is.
 
 pub returns-clause-known : goal.returns-clause-known
 returns-clause-known c =
-    subst (AreKnown c.args.x.now (ids_of c.args.after.now)) (sym c.in_ok-add-in-None.ensures.applied)
+    subst (IsAppliedSoFar c.args.x.now (ids_of c.args.after.now)) (sym c.in_ok-add-in-None.ensures.applied)
     (known-more c.args.x.now (ids_of c.args.after.now) c.args.pack.now (ids_of c.args.progress.now.applied) c.in_ok-found.found c.requires.known c.in_ok-found.ensures
     (subst (λ (l : List ℕ). (a : ℕ) → Has l a → Has (ids_of c.args.after.now) a) c.items.ensures.same c.in-None.ensures))
 

@@ -1,7 +1,7 @@
 use Rattle.std.proofs.Common.{◌≡◌, ◌≤◌, ◌+◌, ℕ, false, List, length, Ok, Err, refl, sym, ◌∙◌, ap, subst, ⊎_elim, arith}
 use Rattle.std.proofs.lemmas.Bool.{false≢true, false_from_ne_true}
 use Rattle.std.proofs.lemmas.Result.{err_from_is_err_and}
-use Rattle.ql_journal.specs.MemDisks.{content_of, forecast_of, room_of}
+use Rattle.ql_journal.specs.MemDisks.{content_of, forecast_of, disk_room}
 use Rattle.ql_holder.specs.Arrivals.{IsArrival}
 use Rattle.ql_journal.specs.declared.why.StationWhy.{StationWhy}
 use Rattle.ql_journal.specs.declared.why.StationWhy.TheVariants as why
@@ -46,8 +46,8 @@ returns-in_err-receive g c =
     let short = ready.short in
     let room = ready.room in
     let size = some c.args.x.now (g.H.Holder.received holder) c.args.pack.now ascending whole c.requires.package c.requires.new in
-    let end : (end_of station + record_size (length c.args.pack.now)) + 1 ≤ room_of disk = omega (arith, inside, few, short, room, size) in
-    let told : IsForetold (record { calls = calls_left disk; room = room_of disk }) ((end_of station + record_size (length c.args.pack.now)) + 1) (Err cause) (forecast_of c.receive.new.disk) = c.in_err-receive.ensures.foretold in
+    let end : (end_of station + record_size (length c.args.pack.now)) + 1 ≤ disk_room disk = omega (arith, inside, few, short, room, size) in
+    let told : IsForetold (record { calls = calls_left disk; room = disk_room disk }) ((end_of station + record_size (length c.args.pack.now)) + 1) (Err cause) (forecast_of c.receive.new.disk) = c.in_err-receive.ensures.foretold in
     rw (p.1, p.2) (receives_err g.H.Holder.received g.H.Holder.fits c.args.x.now c.args.pack.now disk c.receive.new.disk c.receive.new.self cause c.in_err-receive.ensures.causes
     (λ is. false≢true (sym ready.runs ∙ c.in_err-receive.ensures.reopen.0 (ap (λ (w : StationWhy). Err w) is)))
     (λ is. (stopped disk c.receive.new.disk 4 _ end cause is told refl, λ records has. c.in_err-receive.ensures.unacknowledged tt ready.runs records has (ap (λ (w : StationWhy). Err w) is))))
@@ -70,8 +70,8 @@ returns g c =
     let room = ready.room in
     let size = some c.args.x.now before ids ascending whole c.requires.package c.requires.new in
     let came : IsArrival c.args.x.now before ids after arrival = c.in_ok-receive.ensures.arrival in
-    let end : (end_of station + record_size (length ids)) + 1 ≤ room_of disk = omega (arith, inside, few, short, room, size) in
-    let told : IsForetold (record { calls = calls_left disk; room = room_of disk }) ((end_of station + record_size (length ids)) + 1) (Ok arrival) (forecast_of c.receive.new.disk) = c.in_ok-receive.ensures.foretold in
+    let end : (end_of station + record_size (length ids)) + 1 ≤ disk_room disk = omega (arith, inside, few, short, room, size) in
+    let told : IsForetold (record { calls = calls_left disk; room = disk_room disk }) ((end_of station + record_size (length ids)) + 1) (Ok arrival) (forecast_of c.receive.new.disk) = c.in_ok-receive.ensures.foretold in
     let done = all_done disk c.receive.new.disk 4 _ end (foretold_is c.args.x.now before ids ascending whole c.requires.package c.requires.new after arrival came _ _ _ told) in
     let runs : is_stopped c.receive.new.self ≡ false = false_from_ne_true (is_stopped c.receive.new.self) (λ is. ⊎_elim (λ was. false≢true (sym ready.runs ∙ was)) (λ never. let failed : Ok arrival ≡ Err why.Failed = never in cc) (c.in_ok-receive.ensures.stopped.0 is)) in
     let longer = received_length c.args.x.now before ids ascending whole c.requires.package c.requires.new after arrival came in

@@ -10,7 +10,7 @@ use Rattle.ql_lang.specs.declared.program.TypeDecl.{TypeDecl}
 use Rattle.ql_machine.specs.declared.event.Event.{Event}
 use Rattle.ql_machine.specs.declared.reply.Reply.{Reply}
 use Rattle.ql_machine.specs.State.{Machine}
-use Rattle.ql_store.specs.Conditions.{IsAnswerable}
+use Rattle.ql_store.specs.Conditions.{CanBeAnswered}
 use Rattle.ql_value.specs.declared.value.Value.{Value}
 use Rattle.ql_runs.proofs.Going.{IsGoing, going-able, going-count, going-ends, going-on, going-room, going-starts}
 use Rattle.ql_runs.proofs.run.step_through.Goals as goal
@@ -51,7 +51,7 @@ step-requires-clause-able g c =
     let going : IsGoing p c.args.store.now.levels c.args.schedule (c.in-Some.event ∷ into_iter_items c.next.new.self) c.loop-event.replies.items store.levels store.machine =
     subst (λ (left : List Event). IsGoing p c.args.store.now.levels c.args.schedule left c.loop-event.replies.items store.levels store.machine) c.in-Some.ensures.steps.0 c.loop-event.invariant.2 in
     let types : c.new-folder.result.typed.now.program.types ≡ p.types = (λ i. (c.new-folder.ensures.same i).now.program.types) in
-    subst (λ (ts : List TypeDecl). IsAnswerable (λ op args effects. IsAble ts op.0 args effects) store.machine.effects c.in-Some.event) (sym types)
+    subst (λ (ts : List TypeDecl). CanBeAnswered (λ op args effects. IsAble ts op.0 args effects) store.machine.effects c.in-Some.event) (sym types)
     (going-able p c.args.store.now.levels c.args.schedule c.requires.levels c.requires.schedule c.in-Some.event (into_iter_items c.next.new.self) c.loop-event.replies.items store.levels store.machine going)
 
 pub loop-event-preserved : goal.loop-event-preserved

@@ -8,8 +8,8 @@ use Rattle.ql_exec.specs.declared.effect.Effect.{Effect}
 use Rattle.ql_lang.specs.declared.program.TypeDecl.{TypeDecl}
 use Rattle.ql_machine.specs.declared.event.Event.{Event}
 use Rattle.ql_levels.specs.Lists.{LevelLists}
-use Rattle.ql_store.specs.Conditions.{IsAnswerable}
-use Rattle.ql_store.specs.Events.{IsInRange}
+use Rattle.ql_store.specs.Conditions.{CanBeAnswered}
+use Rattle.ql_store.specs.Events.{IsEventInRange}
 use Rattle.ql_store.specs.Levels.{HasLevelOfEach}
 use Rattle.ql_machine.specs.State.{Machine}
 use Rattle.ql_value.specs.declared.value.Value.{Value}
@@ -51,10 +51,10 @@ watch_event-requires g c =
     let may = may_go p c.args.store.now.levels c.args.schedule c.requires.levels c.requires.schedule c.args.replica.0 c.new-folder.ensures.kinds c.in-Some.event left store.levels store.machine c.loop-event.arrivals.items c.loop-event.received on in
     let types : c.new-folder.result.typed.now.program.types ≡ p.types = (λ i. (c.new-folder.ensures.same i).now.program.types) in
     record {
-      range = subst (λ (l : LevelLists). IsInRange (length store.machine.received) l c.in-Some.event) (sym on.levels_are) may.0;
+      range = subst (λ (l : LevelLists). IsEventInRange (length store.machine.received) l c.in-Some.event) (sym on.levels_are) may.0;
       levels = subst (λ (l : LevelLists). HasLevelOfEach p l) (sym on.levels_are) c.requires.levels;
       room = may.1;
-      able = subst (λ (ts : List TypeDecl). IsAnswerable (λ op args effects. IsAble ts op.0 args effects) store.machine.effects c.in-Some.event) (sym types) may.2;
+      able = subst (λ (ts : List TypeDecl). CanBeAnswered (λ op args effects. IsAble ts op.0 args effects) store.machine.effects c.in-Some.event) (sym types) may.2;
     }
 
 pub loop-event-preserved : goal.loop-event-preserved

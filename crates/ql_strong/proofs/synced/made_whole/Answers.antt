@@ -3,7 +3,7 @@ use Rattle.std.proofs.Common.{◌≡◌, ◌+◌, ◌<◌, ◌≤◌, ℕ, List,
 use Rattle.std.proofs.lemmas.List.{take_rest, length-drop}
 use Rattle.ql_base.specs.IdLists.{IsAscending, has_id}
 use Rattle.ql_base.proofs.IdLemmas.{IsAscending-drop}
-use Rattle.ql_strong.specs.Within.{AreAmong, IsUnderWay, IsWithin}
+use Rattle.ql_strong.specs.Within.{AreAmong, IsUnderWay, IsAscendingAmong}
 use Rattle.ql_holder.proofs.Members.{index-has}
 use Rattle.ql_strong.proofs.SyncLaws.{way-begins, way-on, way-past, way-ends}
 use Rattle.ql_strong.proofs.synced.made_whole.Goals as goal
@@ -22,7 +22,7 @@ pub loop-count-init : goal.loop-count-init
 loop-count-init g c =
     let received = g.H.Holder.received c.in_ok-whole.whole in
     let fits = (c.in_ok-whole.ensures.fits c.args.x.now).1 c.requires.fits in
-    let within : IsWithin received c.args.committed.now = record {
+    let within : IsAscendingAmong received c.args.committed.now = record {
       ascending = g.met.H.Holder.fits_ascending c.in_ok-whole.whole c.args.x.now fits;
       among = subst (λ (ids : List ℕ). AreAmong ids c.args.committed.now) (sym c.in_ok-whole.ensures.received) c.requires.within;
     } in

@@ -4,7 +4,7 @@ use Rattle.ql_lang.specs.Trees.{Sentence, sentence_of}
 use Rattle.ql_grammar.specs.ContractGrammar.{ReadsContract}
 use Rattle.ql_lang.specs.declared.contract.Contract.{Contract}
 use Rattle.ql_parse.specs.Parsing.{IsContractAnswer}
-use Rattle.ql_text_laws.specs.Printed.{Fits, IsReadable, IsReadAs, unplaced}
+use Rattle.ql_text_laws.specs.Printed.{FitsSpelling, IsReadable, IsReadAs, unplaced}
 use Rattle.ql_parse.specs.declared.fault.ParseFault.{ParseFault}
 use Rattle.ql_text_laws.proofs.ReadAs.{read_as}
 use Rattle.ql_text_laws.proofs.Printing.{printed_grammar, printed_text}
@@ -13,7 +13,7 @@ use Rattle.ql_text_laws.proofs.ReadNodes.{read_few}
 use Rattle.ql_text_laws.proofs.SameText.{contract_same}
 use Rattle.ql_text_laws.proofs.printed_contracts.printed_again.Goals as goal
 
-answered : goal.After-one_answer → (s : Sentence) (r : Result Contract ParseFault) → Fits s → IsReadable s → IsContractAnswer (contract_text s) r → IsReadAs s r
+answered : goal.After-one_answer → (s : Sentence) (r : Result Contract ParseFault) → FitsSpelling s → IsReadable s → IsContractAnswer (contract_text s) r → IsReadAs s r
 answered c s r fits readable answer =
     let again = printed_text s fits readable in
     let laws = c.one_answer.ensures in

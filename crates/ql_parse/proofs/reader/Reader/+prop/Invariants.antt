@@ -1,7 +1,7 @@
 use Rattle.std.proofs.Common.{length, ◌+◌, ◌*◌}
 use Rattle.ql_grammar.specs.Table.{APart, AProp, PropAt}
 use Rattle.ql_lang.specs.Trees.{proposition_of}
-use Rattle.ql_parse.specs.Junctions.{joined_props, more_props, rank}
+use Rattle.ql_parse.specs.Junctions.{joined_props, more_props, tightness}
 use Rattle.ql_parse.specs.Readings.{Started}
 use Rattle.ql_parse.proofs.reader.Reader.+prop.Given as goal
 
@@ -9,10 +9,10 @@ abbrev pub decreases-atom : goal.decreases-atom
 decreases-atom l = 7 * length l.self.now.tokens + 1
 
 abbrev pub decreases-prop_operand : goal.decreases-prop_operand
-decreases-prop_operand l = 7 * length l.self.now.tokens + 2 + rank l.junction
+decreases-prop_operand l = 7 * length l.self.now.tokens + 2 + tightness l.junction
 
 abbrev pub decreases-joined_props : goal.decreases-joined_props
-decreases-joined_props l = 7 * length l.self.now.tokens + 3 + rank l.junction
+decreases-joined_props l = 7 * length l.self.now.tokens + 3 + tightness l.junction
 
 abbrev pub decreases-more_props : goal.decreases-more_props
 decreases-more_props l = 7 * length l.self.now.tokens

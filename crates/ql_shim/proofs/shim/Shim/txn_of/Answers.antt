@@ -3,14 +3,14 @@ use Rattle.ql_machine.specs.declared.open_txn.OpenTxn.{OpenTxn}
 use Rattle.ql_machine.specs.State.{open_of}
 use Rattle.ql_shim.specs.declared.running.Running.{Running}
 use Rattle.ql_shim.specs.Transactions.{Transactions, open_txns}
-use Rattle.ql_shim.specs.Changed.{IsPlace}
+use Rattle.ql_shim.specs.Changed.{IsOpenIndex}
 use Rattle.ql_shim.proofs.ChangeLaws.{there, there-at}
 use Rattle.ql_shim.proofs.shim.Shim.txn_of.Goals as goal
 
 pub index-requires : goal.index-requires
 index-requires c =
     let items = c.self.inside.running.items in
-    let place : IsPlace items c.args.s c.place.result = subst (λ (list : List Running). IsPlace list c.args.s c.place.result) c.deref.ensures.value c.place.ensures in
+    let place : IsOpenIndex items c.args.s c.place.result = subst (λ (list : List Running). IsOpenIndex list c.args.s c.place.result) c.deref.ensures.value c.place.ensures in
     let open_now = subst (λ (v : Transactions). open_of (open_txns v) c.args.s ≡ Some c.requires.0) (sym c.self.view_is) c.requires.1 in
     let inside = (there items c.args.s c.place.result c.requires.0 place open_now).1.inside in
     omega (arith, inside, c.self.inside.running.ok.0)
@@ -18,7 +18,7 @@ index-requires c =
 pub returns : goal.returns
 returns c =
     let items = c.self.inside.running.items in
-    let place : IsPlace items c.args.s c.place.result = subst (λ (list : List Running). IsPlace list c.args.s c.place.result) c.deref.ensures.value c.place.ensures in
+    let place : IsOpenIndex items c.args.s c.place.result = subst (λ (list : List Running). IsOpenIndex list c.args.s c.place.result) c.deref.ensures.value c.place.ensures in
     let open_now = subst (λ (v : Transactions). open_of (open_txns v) c.args.s ≡ Some c.requires.0) (sym c.self.view_is) c.requires.1 in
     let here = there-at items c.args.s c.place.result c.requires.0 c.index.result.now place open_now c.index.ensures in
     c.requires.1 ∙ ap (λ (t : OpenTxn). Some t) (sym here.txn)

@@ -21,9 +21,9 @@ use Rattle.ql_machine.specs.Rules.{Promises, Rules}
 use Rattle.ql_shim.specs.Transactions.{open_txns}
 use Rattle.ql_store.specs.declared.attempt.Attempt.TheVariants.{Makes}
 use Rattle.ql_machine.specs.Calls.{IsCall}
-use Rattle.ql_machine.specs.Changes.{draft_of, member_of}
+use Rattle.ql_machine.specs.Changes.{draft_of_call, member_of}
 use Rattle.ql_machine.specs.State.{open_of}
-use Rattle.ql_store.specs.Answering.{IsAttempt, IsRefusal, IsViewOf}
+use Rattle.ql_store.specs.Answering.{IsAttempt, IsCallRefusal, IsViewOf}
 use Rattle.ql_store.specs.Asking.{call_of}
 use Rattle.ql_store.specs.Levels.{HasLevelOfEach, promises_of, uses_of}
 use Rattle.ql_store.specs.State.{IsState, StoreState, machine_of}
@@ -72,7 +72,7 @@ returns-in-Some g c = λ rules promises uses answer.
     let level = ap (λ p. p.level c.args.asked.op) one ∙ get_or_from_slice_get fields.levels.ops c.args.asked.op.0 c.op-level.result Strong c.op-level.ensures in
     let used = ap (λ u. u c.txn_of-txn.result.now.decl c.args.asked.op) uses ∙ sym c.uses-is_used.ensures in
     let refused : IsCall rules s call s c.in-Some.reply =
-    subst (IsRefusal rules s call) c.in-Some.is (c.refusal.ensures rules fields.execution received (sym c.self.invariant.0.grouped) c.txn_of-txn.ensures used level) in
+    subst (IsCallRefusal rules s call) c.in-Some.is (c.refusal.ensures rules fields.execution received (sym c.self.invariant.0.grouped) c.txn_of-txn.ensures used level) in
     subst (λ (v : StoreState). IsCall rules v.machine call v.machine c.in-Some.reply) c.self.view_is refused
 
 pub answer-requires-clause-seen : goal.answer-requires-clause-seen
@@ -143,7 +143,7 @@ returns-in-Some-missing g c = λ rules promises uses answer.
     let view : IsViewOf rules s call c.in_ok-view.view.ids c.in_ok-view.view.missing =
     c.in_ok-view.ensures rules received fields.net t state
     (held-at g.H.Holder.received fields.holders.items c.args.asked.replica.0 c.index-holder.result.now within c.index-holder.ensures) c.txn_of-txn.ensures level txn_level in
-    let may : IsRefusal rules s call None = subst (IsRefusal rules s call) c.in_default.is (c.refusal.ensures rules x received (sym c.self.invariant.0.grouped) c.txn_of-txn.ensures uses_it level) in
+    let may : IsCallRefusal rules s call None = subst (IsCallRefusal rules s call) c.in_default.is (c.refusal.ensures rules x received (sym c.self.invariant.0.grouped) c.txn_of-txn.ensures uses_it level) in
     subst (λ (v : StoreState). IsCall rules v.machine call v.machine (reply.Blocked c.in-Some-missing.missing)) c.self.view_is
     (attempt-blocks rules s call c.in_ok-view.view.ids c.in-Some-missing.missing may (subst (IsViewOf rules s call c.in_ok-view.view.ids) c.in-Some-missing.is view))
 
@@ -167,7 +167,7 @@ returns g c = λ rules promises uses answer.
     let view : IsViewOf rules s call c.in_ok-view.view.ids c.in_ok-view.view.missing =
     c.in_ok-view.ensures rules received fields.net t state
     (held-at g.H.Holder.received fields.holders.items c.args.asked.replica.0 c.index-holder.result.now within c.index-holder.ensures) c.txn_of-txn.ensures level txn_level in
-    let may : IsRefusal rules s call None = subst (IsRefusal rules s call) c.in_default.is (c.refusal.ensures rules x received (sym c.self.invariant.0.grouped) c.txn_of-txn.ensures uses_it level) in
+    let may : IsCallRefusal rules s call None = subst (IsCallRefusal rules s call) c.in_default.is (c.refusal.ensures rules x received (sym c.self.invariant.0.grouped) c.txn_of-txn.ensures uses_it level) in
     let nothing : IsViewOf rules s call c.in_ok-view.view.ids None = subst (IsViewOf rules s call c.in_ok-view.view.ids) c.in_default-missing.is view in
     let member : Inside t.run t.decl ≡ member_of (open_of (open_txns fields.shim) c.args.asked.session) = sym (ap member_of c.txn_of-txn.ensures) in
     let draft : Member → Draft = λ m. (record {
@@ -180,8 +180,8 @@ returns g c = λ rules promises uses answer.
       member = m;
       seen = c.in_ok-view.view.ids;
     }) in
-    let drafted : draft (Inside t.run t.decl) ≡ draft_of call (open_of (open_txns fields.shim) c.args.asked.session) (rules.answer c.args.asked.op c.args.asked.args (seen_in_order x c.in_ok-view.view.ids)) c.in_ok-view.view.ids =
-    ap draft member ∙ ap (λ (answered : Answered). draft_of call (open_of (open_txns fields.shim) c.args.asked.session) answered c.in_ok-view.view.ids)
+    let drafted : draft (Inside t.run t.decl) ≡ draft_of_call call (open_of (open_txns fields.shim) c.args.asked.session) (rules.answer c.args.asked.op c.args.asked.args (seen_in_order x c.in_ok-view.view.ids)) c.in_ok-view.view.ids =
+    ap draft member ∙ ap (λ (answered : Answered). draft_of_call call (open_of (open_txns fields.shim) c.args.asked.session) answered c.in_ok-view.view.ids)
     (c.in_ok-answered.ensures ∙ ap (λ (f : OpId → List Value → List Effect → Answered). f c.args.asked.op c.args.asked.args (seen_in_order x c.in_ok-view.view.ids)) (sym answer)) in
     subst (λ (v : StoreState). IsAttempt rules v.machine call (Makes (draft (Inside t.run t.decl)))) c.self.view_is
     (c.in_ok-view.view.ids, attempt-makes rules s call c.in_ok-view.view.ids may nothing replica, drafted)

@@ -17,7 +17,7 @@ use Rattle.ql_machine.specs.declared.event.Event.TheVariants as event
 use Rattle.ql_machine.specs.declared.reply.Reply.{Reply}
 use Rattle.ql_machine.specs.declared.reply.Reply.TheVariants as reply
 use Rattle.ql_machine.specs.Calls.{IsCall, after_plain}
-use Rattle.ql_machine.specs.Changes.{draft_of, package_to_others, received_by}
+use Rattle.ql_machine.specs.Changes.{draft_of_call, package_to_others, received_by}
 use Rattle.ql_machine.specs.Rules.{Call, Rules}
 use Rattle.ql_machine.specs.Sets.{AreThose}
 use Rattle.ql_machine.specs.State.{Machine, open_of}
@@ -25,7 +25,7 @@ use Rattle.ql_machine.specs.Steps.{IsStep, calls}
 use Rattle.ql_session.specs.declared.note.Note.{Note}
 use Rattle.ql_session.specs.Executions.{notes_of}
 use Rattle.ql_shim.specs.Transactions.{own_of, saw_of}
-use Rattle.ql_shim.specs.Viewing.{IsKnown}
+use Rattle.ql_shim.specs.Viewing.{HasNotesOf}
 use Rattle.ql_store.specs.Levels.{promises_of}
 use Rattle.ql_store.specs.State.{IsKept, StoreState, machine_of}
 use Rattle.ql_store.specs.Viewing.{IsLeastLacking}
@@ -162,8 +162,8 @@ make_plain-requires-clause-lawful g c =
       member = Alone;
       seen = ids;
     } in
-    let drafted : draft ≡ draft_of call None (rules.answer c.args.op c.args.args (seen_in_order x ids)) ids =
-    ap (λ (answered : Answered). draft_of call None answered ids) c.in_ok-answered.ensures in
+    let drafted : draft ≡ draft_of_call call None (rules.answer c.args.op c.args.args (seen_in_order x ids)) ids =
+    ap (λ (answered : Answered). draft_of_call call None answered ids) c.in_ok-answered.ensures in
     plain-lawful rules c.self.invariant.0.start s call plain ids those draft nothing drafted
 
 pub make_plain-requires-clause-apart : goal.make_plain-requires-clause-apart
@@ -201,8 +201,8 @@ make_plain-requires-clause-apart g c =
       member = Alone;
       seen = ids;
     } in
-    let drafted : draft ≡ draft_of call None (rules.answer c.args.op c.args.args (seen_in_order x ids)) ids =
-    ap (λ (answered : Answered). draft_of call None answered ids) c.in_ok-answered.ensures in
+    let drafted : draft ≡ draft_of_call call None (rules.answer c.args.op c.args.args (seen_in_order x ids)) ids =
+    ap (λ (answered : Answered). draft_of_call call None answered ids) c.in_ok-answered.ensures in
     each-holder g.H.Holder.received (JoinsNone x (effect_of x draft ∷ [])) fields.holders.items (plain-apart rules c.self.invariant.0.start s call plain ids those draft drafted)
 
 pub invariant_of-self : goal.invariant_of-self
@@ -242,8 +242,8 @@ invariant_of-self g c =
       member = Alone;
       seen = ids;
     } in
-    let drafted : draft ≡ draft_of call None (rules.answer c.args.op c.args.args (seen_in_order x ids)) ids =
-    ap (λ (answered : Answered). draft_of call None answered ids) c.in_ok-answered.ensures in
+    let drafted : draft ≡ draft_of_call call None (rules.answer c.args.op c.args.args (seen_in_order x ids)) ids =
+    ap (λ (answered : Answered). draft_of_call call None answered ids) c.in_ok-answered.ensures in
     let lists = map g.H.Holder.received c.make_plain.new.holders.items in
     let end = machine_of c.make_plain.new.x lists c.make_plain.new.net fields.shim in
     let goes = λ (made : c.make_plain.new.x ≡ x ++ effect_of x draft ∷ []) (got : lists ≡ received_by received c.args.replica.0 ((next_id x).0 ∷ []))
@@ -266,7 +266,7 @@ invariant_of-self g c =
           (IsKept fields.levels end notes fields.shim) ensures.reply ensures.made ensures.received ensures.sent ensures.same ensures.same_received ensures.same_net
           (λ r is made got sent. kept-step fields.levels rules s end fields.sessions notes fields.shim fields.shim e r refl kept
           (calls c.args.session c.args.replica c.args.object c.args.op c.args.args end r (goes made got sent r is)) (plain.replica, subst (λ (v : StoreState). c.args.op.0 < length v.levels.ops) (sym c.self.view_is) c.requires.op) ensures.noted
-          (λ session t now. subst (λ (y : List Effect). IsKnown y t (own_of fields.shim session) (saw_of fields.shim session)) (sym made)
+          (λ session t now. subst (λ (y : List Effect). HasNotesOf y t (own_of fields.shim session) (saw_of fields.shim session)) (sym made)
           (known-plain x (effect_of x draft) t (own_of fields.shim session) (saw_of fields.shim session) law refl (kept.known session t now))))
           (λ one two three.
           let same : end ≡ s = λ i. machine_of (one i) (two i) (three i) fields.shim in
@@ -318,8 +318,8 @@ returns-clause-step g c =
       member = Alone;
       seen = ids;
     } in
-    let drafted : draft ≡ draft_of call None (rules.answer c.args.op c.args.args (seen_in_order x ids)) ids =
-    ap (λ (answered : Answered). draft_of call None answered ids) c.in_ok-answered.ensures in
+    let drafted : draft ≡ draft_of_call call None (rules.answer c.args.op c.args.args (seen_in_order x ids)) ids =
+    ap (λ (answered : Answered). draft_of_call call None answered ids) c.in_ok-answered.ensures in
     let lists = map g.H.Holder.received c.make_plain.new.holders.items in
     let end = machine_of c.make_plain.new.x lists c.make_plain.new.net fields.shim in
     let goes = λ (made : c.make_plain.new.x ≡ x ++ effect_of x draft ∷ []) (got : lists ≡ received_by received c.args.replica.0 ((next_id x).0 ∷ []))

@@ -11,7 +11,7 @@ use Rattle.ql_machine.specs.declared.event.Event.TheVariants as event
 use Rattle.ql_machine.specs.declared.reply.Reply.{Reply}
 use Rattle.ql_machine.specs.declared.reply.Reply.TheVariants as reply
 use Rattle.ql_machine.specs.Calls.{IsCall, after_strong}
-use Rattle.ql_machine.specs.Changes.{draft_of, received_by_all}
+use Rattle.ql_machine.specs.Changes.{draft_of_call, received_by_all}
 use Rattle.ql_machine.specs.Rules.{Call, Rules}
 use Rattle.ql_machine.specs.Sets.{AreThose}
 use Rattle.ql_machine.specs.State.{Machine, committed}
@@ -21,7 +21,7 @@ use Rattle.ql_machine.specs.Kept.{AreDone}
 use Rattle.ql_session.specs.declared.note.Note.{Note}
 use Rattle.ql_session.specs.Executions.{notes_of}
 use Rattle.ql_shim.specs.Transactions.{open_txns, own_of, saw_of}
-use Rattle.ql_shim.specs.Viewing.{IsKnown}
+use Rattle.ql_shim.specs.Viewing.{HasNotesOf}
 use Rattle.ql_store.specs.Levels.{promises_of}
 use Rattle.ql_store.specs.Obstacles.{IsObstacle}
 use Rattle.ql_store.specs.State.{IsKept, StoreState, machine_of}
@@ -72,7 +72,7 @@ make_strong-requires-clause-lawful g c =
     let clear : IsObstacle s c.args.replica c.args.object None = subst (IsObstacle s c.args.replica c.args.object) c.in_default.is stands in
     let draft = c.in_ok-draft.draft in
     let those : AreThose (λ a. IsOn c.args.object (effect_at x a)) draft.seen = c.in_ok-draft.ensures.seen in
-    let drafted : draft ≡ draft_of call None (g.F.Folder.answered c.args.folder.now c.args.op c.args.args (seen_in_order x draft.seen)) draft.seen = c.in_ok-draft.ensures.answered in
+    let drafted : draft ≡ draft_of_call call None (g.F.Folder.answered c.args.folder.now c.args.op c.args.args (seen_in_order x draft.seen)) draft.seen = c.in_ok-draft.ensures.answered in
     strong-lawful rules c.self.invariant.0.start s call is clear draft.seen those draft drafted
 
 pub make_strong-requires-clause-apart : goal.make_strong-requires-clause-apart
@@ -91,7 +91,7 @@ make_strong-requires-clause-apart g c =
     let clear : IsObstacle s c.args.replica c.args.object None = subst (IsObstacle s c.args.replica c.args.object) c.in_default.is stands in
     let draft = c.in_ok-draft.draft in
     let those : AreThose (λ a. IsOn c.args.object (effect_at x a)) draft.seen = c.in_ok-draft.ensures.seen in
-    let drafted : draft ≡ draft_of call None (g.F.Folder.answered c.args.folder.now c.args.op c.args.args (seen_in_order x draft.seen)) draft.seen = c.in_ok-draft.ensures.answered in
+    let drafted : draft ≡ draft_of_call call None (g.F.Folder.answered c.args.folder.now c.args.op c.args.args (seen_in_order x draft.seen)) draft.seen = c.in_ok-draft.ensures.answered in
     each-holder g.H.Holder.received (JoinsNone x (effect_of x draft ∷ [])) fields.holders.items (strong-apart rules c.self.invariant.0.start s call is clear draft.seen those draft drafted)
 
 pub make_strong-requires-clause-done : goal.make_strong-requires-clause-done
@@ -115,7 +115,7 @@ make_strong-requires-clause-whole g c =
     let clear : IsObstacle s c.args.replica c.args.object None = subst (IsObstacle s c.args.replica c.args.object) c.in_default.is stands in
     let draft = c.in_ok-draft.draft in
     let those : AreThose (λ a. IsOn c.args.object (effect_at x a)) draft.seen = c.in_ok-draft.ensures.seen in
-    let drafted : draft ≡ draft_of call None (g.F.Folder.answered c.args.folder.now c.args.op c.args.args (seen_in_order x draft.seen)) draft.seen = c.in_ok-draft.ensures.answered in
+    let drafted : draft ≡ draft_of_call call None (g.F.Folder.answered c.args.folder.now c.args.op c.args.args (seen_in_order x draft.seen)) draft.seen = c.in_ok-draft.ensures.answered in
     strong-whole rules c.self.invariant.0.start s call is clear draft.seen those draft drafted
 
 pub invariant_of-self : goal.invariant_of-self
@@ -134,7 +134,7 @@ invariant_of-self g c =
     let clear : IsObstacle s c.args.replica c.args.object None = subst (IsObstacle s c.args.replica c.args.object) c.in_default.is stands in
     let draft = c.in_ok-draft.draft in
     let those : AreThose (λ a. IsOn c.args.object (effect_at x a)) draft.seen = c.in_ok-draft.ensures.seen in
-    let drafted : draft ≡ draft_of call None (g.F.Folder.answered c.args.folder.now c.args.op c.args.args (seen_in_order x draft.seen)) draft.seen = c.in_ok-draft.ensures.answered in
+    let drafted : draft ≡ draft_of_call call None (g.F.Folder.answered c.args.folder.now c.args.op c.args.args (seen_in_order x draft.seen)) draft.seen = c.in_ok-draft.ensures.answered in
     let y = c.make_strong.new.x in
     let lists = map g.H.Holder.received c.make_strong.new.holders.items in
     let notes = c.make_strong.new.sessions in
@@ -154,7 +154,7 @@ invariant_of-self g c =
           (subst (λ (k : Reply). IsCall rules s call (after_strong rules s call draft.seen got.0) k) (sym reply_is) (strong-makes rules c.self.invariant.0.start s call is clear draft.seen those draft drafted got.0 got.1)) in
           kept-step fields.levels rules s end fields.sessions notes fields.shim fields.shim e r refl kept
           (calls c.args.session c.args.replica c.args.object c.args.op c.args.args end r step) (asked.replica, subst (λ (v : StoreState). c.args.op.0 < length v.levels.ops) (sym c.self.view_is) c.requires.op) ensures.noted
-          (λ session t now. subst (λ (z : List Effect). IsKnown z t (own_of fields.shim session) (saw_of fields.shim session)) (sym made)
+          (λ session t now. subst (λ (z : List Effect). HasNotesOf z t (own_of fields.shim session) (saw_of fields.shim session)) (sym made)
           (known-plain x (effect_of x draft) t (own_of fields.shim session) (saw_of fields.shim session) law (ap (λ (d : Draft). d.member) drafted) (kept.known session t now))))
           (λ one two.
           let same : end ≡ s = λ i. machine_of (one i) (two i) fields.net fields.shim in
@@ -186,7 +186,7 @@ returns-clause-step g c =
     let clear : IsObstacle s c.args.replica c.args.object None = subst (IsObstacle s c.args.replica c.args.object) c.in_default.is stands in
     let draft = c.in_ok-draft.draft in
     let those : AreThose (λ a. IsOn c.args.object (effect_at x a)) draft.seen = c.in_ok-draft.ensures.seen in
-    let drafted : draft ≡ draft_of call None (g.F.Folder.answered c.args.folder.now c.args.op c.args.args (seen_in_order x draft.seen)) draft.seen = c.in_ok-draft.ensures.answered in
+    let drafted : draft ≡ draft_of_call call None (g.F.Folder.answered c.args.folder.now c.args.op c.args.args (seen_in_order x draft.seen)) draft.seen = c.in_ok-draft.ensures.answered in
     let step : IsCall rules s call last r =
     subst (λ (t : Machine). IsCall rules s call t r) (sym (strong-after rules x c.make_strong.new.x received all fields.net fields.shim call draft.seen got.0 draft is.none_open drafted made got.2))
     (subst (λ (k : Reply). IsCall rules s call (after_strong rules s call draft.seen got.0) k) (sym reply_is) (strong-makes rules c.self.invariant.0.start s call is clear draft.seen those draft drafted got.0 got.1)) in

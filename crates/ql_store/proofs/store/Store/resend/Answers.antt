@@ -1,7 +1,7 @@
 use Rattle.std.proofs.Common.{◌≡◌, length, map, refl, sym, subst}
 use Rattle.ql_machine.specs.declared.event.Event.TheVariants as event
 use Rattle.ql_net.specs.Network.{Network}
-use Rattle.ql_store.specs.Events.{IsInRange}
+use Rattle.ql_store.specs.Events.{IsEventInRange}
 use Rattle.ql_store.specs.Levels.{promises_of}
 use Rattle.ql_store.specs.State.{IsKept, StoreState, machine_of}
 use Rattle.ql_store.proofs.KeptLaws.{by-result, kept-step, some_rules}
@@ -13,8 +13,8 @@ invariant_of-self g c =
     let received = map g.H.Holder.received fields.holders.items in
     let kept = c.self.invariant.0 in
     let rules = some_rules (promises_of fields.levels) in
-    let inside : IsInRange (length received) fields.levels (event.Resend c.args.effect c.args.from c.args.to) =
-    subst (λ (s : StoreState). IsInRange (length s.machine.received) s.levels (event.Resend c.args.effect c.args.from c.args.to)) (sym c.self.view_is) (c.requires.from, c.requires.to) in
+    let inside : IsEventInRange (length received) fields.levels (event.Resend c.args.effect c.args.from c.args.to) =
+    subst (λ (s : StoreState). IsEventInRange (length s.machine.received) s.levels (event.Resend c.args.effect c.args.from c.args.to)) (sym c.self.view_is) (c.requires.from, c.requires.to) in
     let start = machine_of fields.execution received fields.net fields.shim in
     let end = machine_of fields.execution received c.resend.new.net fields.shim in (
       by-result c.resend.result _ (c.resend.new.net ≡ fields.net) (IsKept fields.levels end fields.sessions fields.shim) c.resend.ensures.step c.resend.ensures.net
