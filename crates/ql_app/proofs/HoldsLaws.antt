@@ -10,8 +10,8 @@ use Rattle.ql_holds_files.specs.declared.holds_fault.HoldsFault.TheVariants as f
 use Rattle.ql_holds_files.specs.declared.rules.HoldsRule.{HoldsRule}
 use Rattle.ql_holds_files.specs.declared.rules.HoldsRule.TheVariants.{Unexpected, Unknown, Twice, TxnAtom, Variables, Range, NotForward, OtherObject, TooMany}
 use Rattle.ql_holds_files.specs.HoldsFile.{Asked, HoldsOutcome}
-use Rattle.ql_holds_files.specs.Holdings.{IsRefusal}
-use Rattle.ql_holds_files.specs.Rules.{rule_at}
+use Rattle.ql_holds_files.specs.Holdings.{IsHoldsRefusal}
+use Rattle.ql_holds_files.specs.Rules.{holds_rule_at}
 use Rattle.ql_holds_files.specs.FirstFaults.{FirstHoldsFault}
 use Rattle.ql_holds_files.specs.Grammar.{HoldsTree, IsHoldsFile}
 use Rattle.ql_holds_files.specs.Questions.{IsQuestionOf}
@@ -53,7 +53,7 @@ asks_so are_read question bytes asked (t, file, keeps, there, is) =
 
 -- ---- a bad file
 
-text_is : (rule : HoldsRule) (line : ℕ) → holds_fault_text (rule_at rule line) ≡ fault_line (codes "holds") line (rule_word rule)
+text_is : (rule : HoldsRule) (line : ℕ) → holds_fault_text (holds_rule_at rule line) ≡ fault_line (codes "holds") line (rule_word rule)
 text_is Unexpected line = refl
 text_is Unknown line = refl
 text_is Twice line = refl
@@ -69,10 +69,10 @@ abbrev Reports : Ahead → List ℕ → Type 0
 Reports file text = (broken : Broken HoldsRule) × HoldsOutcome file (Err broken) × (text ≡ fault_line (codes "holds") broken.line (rule_word broken.rule))
 
 module _ (file : Ahead) (text : List ℕ) where
-  reported : (f : HoldsFault) → ((broken : Broken HoldsRule) × HoldsOutcome file (Err broken) × (f ≡ rule_at broken.rule broken.line)) → text ≡ holds_fault_text f → Reports file text
+  reported : (f : HoldsFault) → ((broken : Broken HoldsRule) × HoldsOutcome file (Err broken) × (f ≡ holds_rule_at broken.rule broken.line)) → text ≡ holds_fault_text f → Reports file text
   reported f (broken, first, is) said = (broken, first, said ∙ ap holds_fault_text is ∙ text_is broken.rule broken.line)
 
-  first_fault : (f : HoldsFault) → IsRefusal file f → IsReportedAs f text → Reports file text
+  first_fault : (f : HoldsFault) → IsHoldsRefusal file f → IsReportedAs f text → Reports file text
   first_fault (fault.Unexpected line) h said = reported (fault.Unexpected line) h said
   first_fault (fault.Unknown line) h said = reported (fault.Unknown line) h said
   first_fault (fault.Twice line) h said = reported (fault.Twice line) h said
@@ -93,7 +93,7 @@ no_question one are_read question bytes broken fault (asked, asks) = apart one (
 
 -- a file with a first fault is bad
 pub is_bad : OneOutcome → AreRead → OneQuestion → FaultsAreOfGrammar → (bytes : List ℕ) (f : HoldsFault) (text : List ℕ)
-    → IsRefusal (ahead_from 1 bytes) f → IsReportedAs f text → HoldsSays bytes Bad text
+    → IsHoldsRefusal (ahead_from 1 bytes) f → IsReportedAs f text → HoldsSays bytes Bad text
 is_bad one are_read question faults bytes f text h said =
     let first = first_fault (ahead_from 1 bytes) text f h said in
     (no_question one are_read question bytes first.0 first.1, first.0, (faults (ahead_from 1 bytes) first.0).0 first.1, first.2)

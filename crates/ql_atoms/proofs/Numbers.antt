@@ -6,7 +6,7 @@ use Rattle.ql_atoms.specs.declared.atoms.Atom.{Atom}
 use Rattle.ql_atoms.specs.declared.atoms.Atom.TheVariants.{Pair, Current, Is}
 use Rattle.ql_atoms.specs.declared.atoms.PairKind.{PairKind}
 use Rattle.ql_atoms.specs.declared.atoms.PairKind.TheVariants.{Eq, So, SameObj, Vis, Hbo, Hb, SameTxn}
-use Rattle.ql_atoms.specs.Atoms.{Size, Fits, kind_place, atom_place, number_of, count_of, relations_of}
+use Rattle.ql_atoms.specs.Atoms.{Size, Fits, kind_place, atom_place, number_of, atom_count, relations_of}
 
 pub kind_at : ℕ → PairKind
 kind_at q = get_or (Eq ∷ So ∷ SameObj ∷ Vis ∷ Hbo ∷ Hb ∷ SameTxn ∷ []) q Eq
@@ -71,7 +71,7 @@ same_atom s (Is o i) (Current p) h g e = absurd (omega arith)
 same_atom s (Is o i) (Is p j) h g e = same_is s o p i j h g e
 
 -- the last number is the count
-pub counted : (s : Size) (a : Atom) → Fits s a → number_of s a ≤ count_of s
+pub counted : (s : Size) (a : Atom) → Fits s a → number_of s a ≤ atom_count s
 counted s (Pair k i j) h = omega (arith, pair_below s k i j h)
 counted s (Current i) h = omega arith
 counted s (Is o i) h = omega (arith, mul-add-lt o.0 s.constants i s.operations h.0 h.1)

@@ -35,8 +35,8 @@ abbrev pub relations_of : Size → ℕ
 relations_of s = 7 * (s.constants * s.constants)
 
 -- how many atoms there are
-abbrev pub count_of : Size → ℕ
-count_of s = relations_of s + s.constants + s.operations * s.constants
+abbrev pub atom_count : Size → ℕ
+atom_count s = relations_of s + s.constants + s.operations * s.constants
 
 -- The index of an atom, from 0: first the relations, each a square of rows; then the current
 -- effects; then the operations, each a row.

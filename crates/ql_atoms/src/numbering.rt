@@ -1,6 +1,6 @@
 ghost use Rattle.std.specs.Prelude.{◌≡◌, ℕ, ◌+◌, ◌*◌, ◌<◌, ◌≤◌, ◌↔◌, IsSome, IfSome, Some};
 ghost use Rattle.ql_atoms.specs.declared.atoms.Atom.{Atom};
-ghost use Rattle.ql_atoms.specs.Atoms.{Fits, size_of, kind_place, number_of, count_of};
+ghost use Rattle.ql_atoms.specs.Atoms.{Fits, size_of, kind_place, number_of, atom_count};
 
 use crate::atoms::{Atom, PairKind};
 use crate::shapes::Shape;
@@ -10,8 +10,8 @@ use ql_base::OpId;
 pub fn number(a: Atom, s: Shape) -> u32
     requires { Fits (size_of s) a }
     ensures value { result ≡ number_of (size_of s) a }
-    ensures counted { result ≤ count_of (size_of s) }
-    ensures few { count_of (size_of s) ≤ 450 }
+    ensures counted { result ≤ atom_count (size_of s) }
+    ensures few { atom_count (size_of s) ≤ 450 }
 {
     let n = s.constants;
     match a {
@@ -23,7 +23,7 @@ pub fn number(a: Atom, s: Shape) -> u32
 
 /// The atom with this number, if any; the first has number 1.
 pub fn atom_of(n: u32, s: Shape) -> Option<Atom>
-    ensures counted { IsSome result ↔ ((1 ≤ n) × (n ≤ count_of (size_of s))) }
+    ensures counted { IsSome result ↔ ((1 ≤ n) × (n ≤ atom_count (size_of s))) }
     ensures numbered { IfSome result (λ a. Fits (size_of s) a × (number_of (size_of s) a ≡ n)) }
     ensures only { (a : Atom) → Fits (size_of s) a → number_of (size_of s) a ≡ n → result ≡ Some a }
 {

@@ -16,7 +16,7 @@ use Rattle.ql_levels.specs.declared.level.Level.{Level}
 use Rattle.ql_levels.specs.declared.level.Level.TheVariants.{Eventual, Causal, Wide, Strong}
 use Rattle.ql_levels.specs.declared.level.TxnLevel.{TxnLevel}
 use Rattle.ql_levels.specs.declared.level.TxnLevel.TheVariants.{Rc, Mav, Rr}
-use Rattle.ql_levels.specs.Words.{txn_word_of, word_of}
+use Rattle.ql_levels.specs.Words.{txn_word_of, op_level_word}
 use Rattle.ql_lines.specs.declared.fault.Broken.{Broken}
 use Rattle.ql_typing.specs.Names.{op_name, txn_name}
 use Rattle.ql_baseline.specs.Files.{IsBaseline}
@@ -72,8 +72,8 @@ lost_text kind name was = was_text kind name was ++ codes ", has none\n"
 -- the line of an operation that had a level and has a higher one, or none; no line else
 abbrev pub op_rise : List ℕ → Option Level → Option Level → List ℕ
 op_rise name None is = []
-op_rise name (Some was) None = lost_text (codes "op") name (word_of was)
-op_rise name (Some was) (Some is) = if nat_lt (level_rank was) (level_rank is) then rise_text (codes "op") name (word_of was) (word_of is) else []
+op_rise name (Some was) None = lost_text (codes "op") name (op_level_word was)
+op_rise name (Some was) (Some is) = if nat_lt (level_rank was) (level_rank is) then rise_text (codes "op") name (op_level_word was) (op_level_word is) else []
 
 abbrev pub txn_rise : List ℕ → Option TxnLevel → Option TxnLevel → List ℕ
 txn_rise name None is = []

@@ -2,7 +2,7 @@
 use Rattle.std.specs.Prelude.{◌≡◌, ℕ, Bool, true, ◌||◌, List, [], ◌∷◌, None, Some, codes}
 use Rattle.std.specs.Str.{bytes_eq}
 use Rattle.ql_base.specs.Names.{IsName}
-use Rattle.ql_levels.specs.Words.{txn_word_of, word_of}
+use Rattle.ql_levels.specs.Words.{txn_word_of, op_level_word}
 use Rattle.ql_lines.specs.Fields.{Fields, fields_of}
 use Rattle.ql_lines.specs.Lines.{begins_with}
 use Rattle.ql_baseline.specs.declared.stored.Stored.{Stored}
@@ -14,7 +14,7 @@ stored_name (Txn name level) = name
 
 -- op F LEVEL, or none op F; and the same of transactions
 abbrev pub stored_fields : Stored → Fields
-stored_fields (Op name (Some level)) = codes "op" ∷ name ∷ word_of level ∷ []
+stored_fields (Op name (Some level)) = codes "op" ∷ name ∷ op_level_word level ∷ []
 stored_fields (Op name None) = codes "none" ∷ codes "op" ∷ name ∷ []
 stored_fields (Txn name (Some level)) = codes "txn" ∷ name ∷ txn_word_of level ∷ []
 stored_fields (Txn name None) = codes "none" ∷ codes "txn" ∷ name ∷ []

@@ -5,7 +5,7 @@ use Rattle.ql_levels.specs.declared.level.Level.{Level}
 use Rattle.ql_levels.specs.declared.level.Level.TheVariants.{Eventual, Causal, Wide, Strong}
 use Rattle.ql_levels.specs.declared.level.TxnLevel.{TxnLevel}
 use Rattle.ql_levels.specs.declared.level.TxnLevel.TheVariants.{Rc, Mav, Rr}
-use Rattle.ql_levels.specs.Words.{txn_word_of, word_of}
+use Rattle.ql_levels.specs.Words.{txn_word_of, op_level_word}
 use Rattle.ql_lines.specs.Fields.{Fields}
 use Rattle.ql_lines.specs.declared.fault.Broken.{Broken}
 use Rattle.ql_baseline.specs.Files.{GivesStored, closes_stored}
@@ -15,7 +15,7 @@ use Rattle.ql_baseline.specs.declared.stored.BaselineRule.TheVariants.{Unexpecte
 use Rattle.ql_baseline.specs.declared.stored.Stored.{Stored}
 use Rattle.ql_baseline.specs.declared.stored.Stored.TheVariants.{Op, Txn}
 
-same_word : (l m : Level) → word_of l ≡ word_of m → l ≡ m
+same_word : (l m : Level) → op_level_word l ≡ op_level_word m → l ≡ m
 same_word Eventual Eventual e = refl
 same_word Causal Causal e = refl
 same_word Wide Wide e = refl
@@ -83,10 +83,10 @@ module _ (before : List Stored) (text : List ℕ) where
   pub gives_some : ((x : Result (List Stored) BaselineRule) → GivesStored before text x → ⊥) → ⊥
   gives_some none = by_cases (is_passed text) refl none
 
-pub closes_one : (before : List Stored) (end : ℕ) (x y : Result (List Stored) (Broken BaselineRule)) → closes_stored before end x → closes_stored before end y → x ≡ y
-closes_one [] end x y p q = p ∙ sym q
-closes_one (s ∷ stored) end x y p q = p ∙ sym q
+pub stored_close_once : (before : List Stored) (end : ℕ) (x y : Result (List Stored) (Broken BaselineRule)) → closes_stored before end x → closes_stored before end y → x ≡ y
+stored_close_once [] end x y p q = p ∙ sym q
+stored_close_once (s ∷ stored) end x y p q = p ∙ sym q
 
-pub closes_some : (before : List Stored) (end : ℕ) → ((x : Result (List Stored) (Broken BaselineRule)) → closes_stored before end x → ⊥) → ⊥
-closes_some [] end none = none _ refl
-closes_some (s ∷ stored) end none = none _ refl
+pub stored_close_somehow : (before : List Stored) (end : ℕ) → ((x : Result (List Stored) (Broken BaselineRule)) → closes_stored before end x → ⊥) → ⊥
+stored_close_somehow [] end none = none _ refl
+stored_close_somehow (s ∷ stored) end none = none _ refl

@@ -1,6 +1,6 @@
 ghost use Rattle.std.specs.Prelude.{[]};
 ghost use Rattle.ql_baseline.specs.Files.{GivesStored, closes_stored};
-ghost use Rattle.ql_baseline.specs.OneLine.{closes_one, closes_some, gives_one, gives_some};
+ghost use Rattle.ql_baseline.specs.OneLine.{stored_close_once, stored_close_somehow, gives_one, gives_some};
 
 use crate::lines::{is_passed, stored_of};
 use crate::stored::{BaselineRule, StoredList};
@@ -69,7 +69,7 @@ impl LineFormat for Format {
 
     ghost gives_some = { λ f s l none. gives_some s l.text none };
 
-    ghost closes_one = { λ f s end x y p q. closes_one s end x y p q };
+    ghost closes_one = { λ f s end x y p q. stored_close_once s end x y p q };
 
-    ghost closes_some = { λ f s end none. closes_some s end none };
+    ghost closes_some = { λ f s end none. stored_close_somehow s end none };
 }

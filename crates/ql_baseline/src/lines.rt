@@ -3,7 +3,7 @@ ghost use Rattle.std.specs.Prelude.{◌≡◌, ◌∷◌, [], ℕ, List, MatchOp
 ghost use Rattle.ql_base.specs.Names.{IsName};
 ghost use Rattle.ql_levels.specs.declared.level.Level.{Level};
 ghost use Rattle.ql_levels.specs.declared.level.TxnLevel.{TxnLevel};
-ghost use Rattle.ql_levels.specs.Words.{txn_word_of, word_of};
+ghost use Rattle.ql_levels.specs.Words.{txn_word_of, op_level_word};
 ghost use Rattle.ql_lines.specs.Fields.{fields_of};
 ghost use Rattle.ql_baseline.specs.Lines.{IsStoredLine, is_passed, is_passed_word};
 ghost use Rattle.ql_baseline.specs.declared.stored.Stored.{Stored};
@@ -35,8 +35,8 @@ pub(crate) fn stored_of(text: &[u8]) -> Option<Stored>
 fn op_line(text: &[u8]) -> Option<(Word, Level)>
     ensures { MatchOption result
         ((name : List ℕ) (level : Level) → IsName name
-        → fields_of text.now ≡ codes "op" ∷ name ∷ word_of level ∷ [] → ⊥)
-        (λ x. IsName x.0 × (fields_of text.now ≡ codes "op" ∷ x.0 ∷ word_of x.1 ∷ [])) }
+        → fields_of text.now ≡ codes "op" ∷ name ∷ op_level_word level ∷ [] → ⊥)
+        (λ x. IsName x.0 × (fields_of text.now ≡ codes "op" ∷ x.0 ∷ op_level_word x.1 ∷ [])) }
 {
     let rest = after_word(text, b"op")?;
     let (name, remaining) = after_name(rest)?;

@@ -16,8 +16,8 @@ use Rattle.ql_cert.specs.declared.fault.CertFault.TheVariants as fault
 use Rattle.ql_cert.specs.declared.fault.CertRule.{CertRule}
 use Rattle.ql_cert.specs.declared.fault.CertRule.TheVariants.{Unexpected, Number}
 use Rattle.ql_cert.specs.Faults.FirstFileFault.{unexpected, number, ended}
-use Rattle.ql_cert.specs.Faults.{BeginsFile, ClosesSaid, FirstFileFault, Follows, Gives, IsMisnumbered, IsRefusal, MayFollow, fault_at, cert_fault_of, fields_in}
-use Rattle.ql_cert.specs.OneLine.{closes_one, gives_one}
+use Rattle.ql_cert.specs.Faults.{BeginsFile, ClosesSaid, FirstFileFault, Follows, Gives, IsMisnumbered, IsCertRefusal, MayFollow, cert_fault_at, cert_fault_of, fields_in}
+use Rattle.ql_cert.specs.OneLine.{said_closes_once, gives_one}
 use Rattle.ql_cert.proofs.Walking.{Walks, joined, next_state, one_walk, parted}
 
 -- Readings that lines lead to from a first one, and what a file says that ends there: a reading tells its lines, which begin
@@ -53,7 +53,7 @@ said_none : {Said : Type 0} (said : Option Said) (end : ℕ) (b : Broken CertRul
 said_none None end b c = (refl, cc)
 said_none (Some y) end b c = absurd cc
 
-is_refusal : (IsFile : List Fields → Type 0) (file : Ahead) (rule : CertRule) (line : ℕ) → FirstFileFault IsFile file (fault_at rule line) → IsRefusal IsFile file (fault_at rule line)
+is_refusal : (IsFile : List Fields → Type 0) (file : Ahead) (rule : CertRule) (line : ℕ) → FirstFileFault IsFile file (cert_fault_at rule line) → IsCertRefusal IsFile file (cert_fault_at rule line)
 is_refusal IsFile file Unexpected line h = h
 is_refusal IsFile file Number line h = h
 
@@ -131,7 +131,7 @@ module _ {State Said : Type 0} {first : State} {Takes : State → Fields → Sta
         let at = reached (fields_in file.lines) h.state (walks file.lines first h.state h.leads) in
         subst (IsFileOf x) at.0 (r.ends h.state x at.1 (said_some (said h.state) file.end x h.ends))
 
-    first_fault : (b : Broken CertRule) → read.FirstFault gives closes first file b → FirstFileFault IsFile file (fault_at b.rule b.line)
+    first_fault : (b : Broken CertRule) → read.FirstFault gives closes first file b → FirstFileFault IsFile file (cert_fault_at b.rule b.line)
     first_fault b (at_line before l rest s Unexpected are h g) =
         let w = walks before first s h in
         unexpected before l rest are (begun (fields_in before) s w) (λ p. g.0 (followed (fields_in before) s w (fields_of l.text) p)) (λ m. g.1 (other_followed (fields_in before) s w (fields_of l.text) m))
@@ -141,11 +141,11 @@ module _ {State Said : Type 0} {first : State} {Takes : State → Fields → Sta
     first_fault b (at_end s broken h c) =
         let w = walks file.lines first s h in
         let none = said_none (said s) file.end broken c in
-        subst (λ (d : Broken CertRule). FirstFileFault IsFile file (fault_at d.rule d.line)) (sym none.1) (ended (begun (fields_in file.lines) s w) (λ is.
+        subst (λ (d : Broken CertRule). FirstFileFault IsFile file (cert_fault_at d.rule d.line)) (sym none.1) (ended (begun (fields_in file.lines) s w) (λ is.
         let whole = file_walk (fields_in file.lines) is in
         whole.2 (ap said (one_walk Takes r.one (fields_in file.lines) first whole.0 s whole.1 w) ∙ none.0)))
 
-    pub refusal : (f : FileFault CertRule) → IsEndAnswer (Outcome gives closes first file) (Err f) → IsRefusal IsFile file (cert_fault_of f)
+    pub refusal : (f : FileFault CertRule) → IsEndAnswer (Outcome gives closes first file) (Err f) → IsCertRefusal IsFile file (cert_fault_of f)
     refusal (answer.Broken b) h = is_refusal IsFile file b.rule b.line (first_fault b h)
     refusal answer.NoMemory h = tt
 
@@ -154,7 +154,7 @@ module _ {State Said : Type 0} {first : State} {Takes : State → Fields → Sta
     record Comes (f : CertFault) : Type 0 where
       to : Broken CertRule
       is : read.FirstFault gives closes first file to
-      here : f ≡ fault_at to.rule to.line
+      here : f ≡ cert_fault_at to.rule to.line
 
     unended : (s : State) (o : Option Said) → said s ≡ o → Walks Takes first (fields_in file.lines) s → (IsFile (fields_in file.lines) → ⊥) → Comes (fault.Unexpected file.end)
     unended s None e w none = record {
@@ -186,9 +186,9 @@ module _ {State Said : Type 0} {first : State} {Takes : State → Fields → Sta
         let p = comes f h in
         let q = comes g k in
         let same : ◌≡◌ {A = Result Said (Broken CertRule)} (Err p.to) (Err q.to) =
-        law.one_outcome gives closes (λ s l x y. gives_one Takes r.one s (fields_of l.text) x y) (λ s end x y. closes_one (said s) end x y) first file (Err p.to) (Err q.to) p.is q.is in
+        law.one_outcome gives closes (λ s l x y. gives_one Takes r.one s (fields_of l.text) x y) (λ s end x y. said_closes_once (said s) end x y) first file (Err p.to) (Err q.to) p.is q.is in
         let to : p.to ≡ q.to = cc in
-        p.here ∙ ap (λ (b : Broken CertRule). fault_at b.rule b.line) to ∙ sym q.here
+        p.here ∙ ap (λ (b : Broken CertRule). cert_fault_at b.rule b.line) to ∙ sym q.here
 
   -- fields spell one thing
   pub one_file : (x y : Said) (fs : List Fields) → IsFileOf x fs → IsFileOf y fs → x ≡ y

@@ -6,7 +6,7 @@ use Rattle.ql_base.specs.Names.{IsName}
 use Rattle.ql_base.specs.Numbers.{Spells}
 use Rattle.ql_levels.specs.declared.level.Level.{Level}
 use Rattle.ql_levels.specs.declared.level.TxnLevel.{TxnLevel}
-use Rattle.ql_levels.specs.Words.{word_of, txn_word_of}
+use Rattle.ql_levels.specs.Words.{op_level_word, txn_word_of}
 use Rattle.ql_lines.specs.Answers.{IsLineAnswer}
 use Rattle.ql_lines.specs.declared.fault.LineFault.{LineFault}
 use Rattle.ql_lines.specs.declared.fault.LineFault.TheVariants.{Breaks, NoMemory}
@@ -35,7 +35,7 @@ none_some {X} x e = let tag : Option X → ℕ = λ o. elim o [ None ↦ 0 | Som
 
 -- ---- words
 
-pub no_op_word : (word : List ℕ) → ((l : Level) → word_of l ≡ word → ◌≡◌ {A = Option Level} None (Some l)) → IsLevelRead (codes "op") word None
+pub no_op_word : (word : List ℕ) → ((l : Level) → op_level_word l ≡ word → ◌≡◌ {A = Option Level} None (Some l)) → IsLevelRead (codes "op") word None
 unfolding kind_word level_word
 no_op_word word none = λ l. let P : SectionLevel → Type 0 = λ k. kind_word k ≡ codes "op" → level_word k ≡ word → ⊥ in
     elim l as P [ Op m ↦ λ p e. none_some m (none m e) | Txn m ↦ λ p e. omega (arith, ap length p) ]

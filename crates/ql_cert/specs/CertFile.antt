@@ -2,7 +2,7 @@
 use Rattle.std.specs.Prelude.{ℕ, suc, ◌≡◌, ◌<◌, ◌^◌, ◌⊎◌, Option, None, Some, List, [], ◌∷◌, ◌++◌, length, codes}
 use Rattle.std.specs.List.{AllByRecursion, flat_map}
 use Rattle.ql_base.specs.Names.{IsName}
-use Rattle.ql_levels.specs.Words.{word_of, txn_word_of}
+use Rattle.ql_levels.specs.Words.{op_level_word, txn_word_of}
 use Rattle.ql_lines.specs.Fields.{Fields}
 use Rattle.ql_refute.specs.declared.refutation.Line.{Line}
 use Rattle.ql_cert.specs.declared.cert.SectionLevel.{SectionLevel}
@@ -24,7 +24,7 @@ kind_word (Op l) = codes "op"
 kind_word (Txn l) = codes "txn"
 
 unfoldable pub level_word : SectionLevel → List ℕ
-level_word (Op l) = word_of l
+level_word (Op l) = op_level_word l
 level_word (Txn l) = txn_word_of l
 
 abbrev pub heading : List ℕ → SectionLevel → Fields

@@ -43,9 +43,9 @@ pub data FirstFileFault (IsFile : List Fields → Type 0) (file : Ahead) : CertF
   ended : BeginsFile IsFile (fields_in file.lines) → (IsFile (fields_in file.lines) → ⊥) → FirstFileFault IsFile file (fault.Unexpected file.end)
 
 -- a refusal is the first fault, or that memory has run out
-abbrev pub IsRefusal : (List Fields → Type 0) → Ahead → CertFault → Type 0
-IsRefusal IsFile file fault.NoMemory = Unit {0}
-IsRefusal IsFile file f = FirstFileFault IsFile file f
+abbrev pub IsCertRefusal : (List Fields → Type 0) → Ahead → CertFault → Type 0
+IsCertRefusal IsFile file fault.NoMemory = Unit {0}
+IsCertRefusal IsFile file f = FirstFileFault IsFile file f
 
 -- ---- line after line
 
@@ -64,10 +64,10 @@ module _ {State : Type 0} (Takes : State → Fields → State → Type 0) where
 abbrev pub ClosesSaid : {Said : Type 0} → Option Said → ℕ → Result Said (Broken CertRule) → Type 0
 ClosesSaid said end x = x ≡ ok_or said (record { line = end; rule = Unexpected })
 
-abbrev pub fault_at : CertRule → ℕ → CertFault
-fault_at Unexpected line = fault.Unexpected line
-fault_at Number line = fault.Number line
+abbrev pub cert_fault_at : CertRule → ℕ → CertFault
+cert_fault_at Unexpected line = fault.Unexpected line
+cert_fault_at Number line = fault.Number line
 
 abbrev pub cert_fault_of : FileFault CertRule → CertFault
-cert_fault_of (file.Broken broken) = fault_at broken.rule broken.line
+cert_fault_of (file.Broken broken) = cert_fault_at broken.rule broken.line
 cert_fault_of file.NoMemory = fault.NoMemory

@@ -38,11 +38,11 @@ module _ {State : Type 0} (TakesLine : State → Fields → State → Type 0) wh
       let stops : Follows TakesLine s f → ⊥ = λ p. none (Ok p.0) p.1 in
       none (Err Unexpected) (stops, λ m. none (Err Number) (stops, m))
 
-pub closes_one : {Said : Type 0} (said : Option Said) (end : ℕ) (x y : Result Said (Broken CertRule)) → ClosesSaid said end x → ClosesSaid said end y → x ≡ y
-closes_one said end x y p q = p ∙ sym q
+pub said_closes_once : {Said : Type 0} (said : Option Said) (end : ℕ) (x y : Result Said (Broken CertRule)) → ClosesSaid said end x → ClosesSaid said end y → x ≡ y
+said_closes_once said end x y p q = p ∙ sym q
 
-pub closes_some : {Said : Type 0} (said : Option Said) (end : ℕ) → ((x : Result Said (Broken CertRule)) → ClosesSaid said end x → ⊥) → ⊥
-closes_some said end none = none _ refl
+pub said_closes_somehow : {Said : Type 0} (said : Option Said) (end : ℕ) → ((x : Result Said (Broken CertRule)) → ClosesSaid said end x → ⊥) → ⊥
+said_closes_somehow said end none = none _ refl
 
 -- ---- a line of a certificate is of one form
 

@@ -6,7 +6,7 @@ ghost use Rattle.ql_lines.specs.Fields.{fields_of};
 ghost use Rattle.ql_cert.specs.declared.cert_reader.CertReading.TheVariants.{Untitled, Within};
 ghost use Rattle.ql_cert.specs.CertFile.{TakesLine, end_line, heading, opened, said_sections, title, with_last};
 ghost use Rattle.ql_cert.specs.Faults.{ClosesSaid, Gives};
-ghost use Rattle.ql_cert.specs.OneLine.{closes_one, closes_some, gives_one, gives_some, one_after};
+ghost use Rattle.ql_cert.specs.OneLine.{said_closes_once, said_closes_somehow, gives_one, gives_some, one_after};
 ghost use Rattle.ql_cert.specs.Readings.{IsLevelRead, IsReadField, three};
 
 use crate::cert::{Section, SectionLevel, Sections};
@@ -91,9 +91,9 @@ impl LineFormat for CertFormat {
 
     ghost gives_some = { λ f s l none. gives_some TakesLine s (fields_of l.text) none };
 
-    ghost closes_one = { λ f s end x y p q. closes_one (said_sections s) end x y p q };
+    ghost closes_one = { λ f s end x y p q. said_closes_once (said_sections s) end x y p q };
 
-    ghost closes_some = { λ f s end none. closes_some (said_sections s) end none };
+    ghost closes_some = { λ f s end none. said_closes_somehow (said_sections s) end none };
 }
 
 #[tactic(auto, using(crate::proofs::Refusals::not_titled))]

@@ -1,7 +1,7 @@
 ghost use Rattle.std.specs.Prelude.{MatchResult};
 ghost use Rattle.ql_lines.specs.Lines.{ahead_from};
 ghost use Rattle.ql_cert.specs.CertFile.{IsCertFile, IsCertOf};
-ghost use Rattle.ql_cert.specs.Faults.{IsRefusal, fields_in};
+ghost use Rattle.ql_cert.specs.Faults.{IsCertRefusal, fields_in};
 
 use crate::cert::Cert;
 use crate::cert_reader::CertFormat;
@@ -13,7 +13,7 @@ use std::alloc::Global;
 pub fn parse_cert(alloc: Global, bytes: &[u8]) -> Result<Cert, CertFault>
     ensures { MatchResult result
         (λ c. IsCertOf c.sections (fields_in (ahead_from 1 bytes.now).lines))
-        (IsRefusal IsCertFile (ahead_from 1 bytes.now)) }
+        (IsCertRefusal IsCertFile (ahead_from 1 bytes.now)) }
 {
     match read_file(&CertFormat { alloc }, bytes) {
         Ok(sections) => Ok(Cert { sections }),

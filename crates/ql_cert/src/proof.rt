@@ -1,6 +1,6 @@
 ghost use Rattle.std.specs.Prelude.{◌<◌, ◌^◌, MatchResult, length};
 ghost use Rattle.ql_lines.specs.Lines.{ahead_from};
-ghost use Rattle.ql_cert.specs.Faults.{IsRefusal, fields_in};
+ghost use Rattle.ql_cert.specs.Faults.{IsCertRefusal, fields_in};
 ghost use Rattle.ql_cert.specs.ProofFile.{IsProofFile, IsProofOf};
 
 use crate::fault::{CertFault, fault_of};
@@ -16,7 +16,7 @@ pub fn parse_proof(alloc: Global, bytes: &[u8]) -> Result<(Clauses, Refutation),
     requires short { length bytes.now < 2 ^ 32 }
     ensures { MatchResult result
         (λ p. IsProofOf p.0 p.1.lines (fields_in (ahead_from 1 bytes.now).lines))
-        (IsRefusal IsProofFile (ahead_from 1 bytes.now)) }
+        (IsCertRefusal IsProofFile (ahead_from 1 bytes.now)) }
 {
     match read_file(&ProofFormat { alloc }, bytes) {
         Ok((clauses, lines)) => Ok((clauses, Refutation { lines })),

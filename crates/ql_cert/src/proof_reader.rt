@@ -4,7 +4,7 @@ ghost use Rattle.ql_lines.specs.Answers.{IsLineAnswer};
 ghost use Rattle.ql_lines.specs.Fields.{fields_of};
 ghost use Rattle.ql_cert.specs.declared.proof_reader.ProofReading.TheVariants.{Unbegun, Within};
 ghost use Rattle.ql_cert.specs.Faults.{ClosesSaid, Gives};
-ghost use Rattle.ql_cert.specs.OneLine.{closes_one, closes_some, gives_one, gives_some};
+ghost use Rattle.ql_cert.specs.OneLine.{said_closes_once, said_closes_somehow, gives_one, gives_some};
 ghost use Rattle.ql_cert.specs.OneProofLine.{one_after, stays_sound};
 ghost use Rattle.ql_cert.specs.ProofFile.{ProofTakes, clause_count, most_variables, proof_said, variables_line};
 ghost use Rattle.ql_cert.specs.Readings.{IsReadField, two};
@@ -93,9 +93,9 @@ impl LineFormat for ProofFormat {
 
     ghost gives_some = { λ f s l none. gives_some ProofTakes s (fields_of l.text) none };
 
-    ghost closes_one = { λ f s end x y p q. closes_one (proof_said s) end x y p q };
+    ghost closes_one = { λ f s end x y p q. said_closes_once (proof_said s) end x y p q };
 
-    ghost closes_some = { λ f s end none. closes_some (proof_said s) end none };
+    ghost closes_some = { λ f s end none. said_closes_somehow (proof_said s) end none };
 }
 
 // The first line must have the number of variables.

@@ -26,7 +26,7 @@ use Rattle.ql_judging.proofs.SamePrograms.{same-execution, same-op-contracts, sa
 use Rattle.ql_lang.specs.Formulas.{Resolved}
 use Rattle.ql_lang.specs.declared.program.Program.{Program}
 use Rattle.ql_lang.specs.Programs.{Source, source_of}
-use Rattle.ql_levels.specs.Words.{word_of, txn_word_of}
+use Rattle.ql_levels.specs.Words.{op_level_word, txn_word_of}
 use Rattle.ql_parse.specs.Parsing.{IsProgramText}
 use Rattle.ql_typing.specs.Operations.{all_ops, op_contract, op_contracts, op_kinds, op_words, txn_contract, txn_contracts}
 use Rattle.ql_verify.specs.Verdicts.{AllOpsHold, AllTxnsHold, IsVerdict}
@@ -34,7 +34,7 @@ use Rattle.ql_verify.specs.Work.{work_of}
 use Rattle.ql_verify.specs.declared.breach.Breach.{Breach}
 use Rattle.ql_verify.specs.declared.breach.Breach.TheVariants.{AtOp, AtTxn}
 use Rattle.ql_claim.specs.InTurn.{NothingFailed}
-use Rattle.ql_claim.specs.Kept.{KeepsLevels, AreKeptInTurn, IsUpheld}
+use Rattle.ql_claim.specs.Kept.{KeepsPrintedLevels, AreKeptInTurn, IsUpheld}
 use Rattle.ql_claim.specs.Soundness.{op_with_level, txn_with_level}
 use Rattle.ql_claim.proofs.Asked.{asks-verify, said-of-files}
 use Rattle.ql_claim.proofs.SoundClaims.{classified}
@@ -44,7 +44,7 @@ use Rattle.ql_claim.proofs.SoundLines.{IsPrinted}
 
 -- q is the program that `verify` judges
 module _ (source text : List ℕ) (printed : IsPrinted source text) (p q : Program) (to_p : source_of printed.sound.program ≡ source_of p) (to_q : source_of printed.sound.program ≡ source_of q)
-    (x : List Effect) (lawful : IsExecution x) (fits : FitsProgram (op_kinds p.types) x) (kept : KeepsLevels p text x) where
+    (x : List Effect) (lawful : IsExecution x) (fits : FitsProgram (op_kinds p.types) x) (kept : KeepsPrintedLevels p text x) where
   abbrev own : Program
   own = printed.sound.program
 
@@ -58,7 +58,7 @@ module _ (source text : List ℕ) (printed : IsPrinted source text) (p q : Progr
       let count = length-map (all_ops own.types) (op_contract (op_words own.types)) in
       let level = printed.each_op at.effect.op.0 (omega (arith, within, count)) in
       let has : Contains (lines text) (op_with_level p at.effect.op.0 level.0) =
-      subst (λ (n : List ℕ). Contains (lines text) (codes "op " ++ n ++ codes " " ++ word_of level.0)) (same-op-name own p to_p at.effect.op.0) level.1 in
+      subst (λ (n : List ℕ). Contains (lines text) (codes "op " ++ n ++ codes " " ++ op_level_word level.0)) (same-op-name own p to_p at.effect.op.0) level.1 in
       let line : Contains (lines text) (op_with_level own at.effect.op.0 level.0 ++ codes "") =
       subst (λ (w : List ℕ). Contains (lines text) w) (sym (append-nil (op_with_level own at.effect.op.0 level.0))) level.1 in
       printed.sound.operations at.effect.op.0 level.0 f line contract x lawful fits-own a at.effect at.is refl (kept.effects a at.effect level.0 at.is has)
@@ -89,7 +89,7 @@ module _ (tree : (bytes : List ℕ) (s t : Source) → IsProgramText bytes s →
     (well : (p : Program) (file : List ℕ) (x : List Effect) → ReportsExecution p file x → IsExecution x)
     (fit : (p : Program) (file : List ℕ) (x : List Effect) → ReportsExecution p file x → FitsProgram (op_kinds p.types) x)
     (source text file : List ℕ) (printed : IsPrinted source text) (p : Program) (reads : IsProgramText source (source_of p))
-    (x : List Effect) (reports : ReportsExecution p file x) (kept : KeepsLevels p text x) where
+    (x : List Effect) (reports : ReportsExecution p file x) (kept : KeepsPrintedLevels p text x) where
   abbrev its-program : Program
   its-program = printed.sound.program
 

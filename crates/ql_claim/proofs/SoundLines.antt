@@ -30,7 +30,7 @@ use Rattle.ql_lang.specs.declared.operation.OpDecl.{OpDecl}
 use Rattle.ql_lang.specs.declared.program.Program.{Program}
 use Rattle.ql_lang.specs.declared.program.TxnDecl.{TxnDecl}
 use Rattle.ql_levels.specs.Lists.{LevelLists}
-use Rattle.ql_levels.specs.Words.{word_of, txn_word_of}
+use Rattle.ql_levels.specs.Words.{op_level_word, txn_word_of}
 use Rattle.ql_levels.specs.declared.level.Level.{Level}
 use Rattle.ql_levels.specs.declared.level.Level.TheVariants.{Strong}
 use Rattle.ql_levels.specs.declared.level.TxnLevel.{TxnLevel}
@@ -100,8 +100,8 @@ module _ (source : List ℕ) (p : Program) (is : IsSourceOf source p) where
       let own = txn-found source p is d at.0 at.1 in
       (solid-name (txn_name p d) (subst IsName (sym word) own.0), ap (txn_place p.txns) word ∙ own.1)
 
-  op-spaced : (o : ℕ) (l : Level) → op_with_level p o l ≡ codes "op " ++ (op_name p o ++ 32 ∷ word_of l)
-  op-spaced o l = append_assoc (codes "op " ++ op_name p o) (codes " ") (word_of l) ∙ append_assoc (codes "op ") (op_name p o) (32 ∷ word_of l)
+  op-spaced : (o : ℕ) (l : Level) → op_with_level p o l ≡ codes "op " ++ (op_name p o ++ 32 ∷ op_level_word l)
+  op-spaced o l = append_assoc (codes "op " ++ op_name p o) (codes " ") (op_level_word l) ∙ append_assoc (codes "op ") (op_name p o) (32 ∷ op_level_word l)
 
   txn-spaced : (d : ℕ) (l : TxnLevel) → txn_with_level p d l ≡ codes "txn " ++ (txn_name p d ++ 32 ∷ txn_word_of l)
   txn-spaced d l = append_assoc (codes "txn " ++ txn_name p d) (codes " ") (txn_word_of l) ∙ append_assoc (codes "txn ") (txn_name p d) (32 ∷ txn_word_of l)
@@ -109,7 +109,7 @@ module _ (source : List ℕ) (p : Program) (is : IsSourceOf source p) where
   op-one-line : (o : ℕ) (l : Level) → o < length (all_ops p.types) → IsOneLine (op_with_level p o l)
   op-one-line o l less =
       subst IsOneLine (sym (op-spaced o l))
-      (spaced-line (codes "op") (op_name p o ++ 32 ∷ word_of l) refl (spaced-line (op_name p o) (word_of l) (op-known o less).0 (solid-line (word_of l) (solid-word l))))
+      (spaced-line (codes "op") (op_name p o ++ 32 ∷ op_level_word l) refl (spaced-line (op_name p o) (op_level_word l) (op-known o less).0 (solid-line (op_level_word l) (solid-word l))))
 
   txn-one-line : (d : ℕ) (l : TxnLevel) → d < length p.txns → IsOneLine (txn_with_level p d l)
   txn-one-line d l less =
@@ -121,8 +121,8 @@ module _ (source : List ℕ) (p : Program) (is : IsSourceOf source p) where
   same-op o k l m less more e =
       let here = op-known o less in
       let there = op-known k more in
-      let fields : op_name p o ++ 32 ∷ word_of l ≡ op_name p k ++ 32 ∷ word_of m = ap (λ (w : List ℕ). drop 3 w) (sym (op-spaced o l) ∙ e ∙ op-spaced k m) in
-      let parts = one-field (op_name p o) (op_name p k) (word_of l) (word_of m) here.0 there.0 fields in
+      let fields : op_name p o ++ 32 ∷ op_level_word l ≡ op_name p k ++ 32 ∷ op_level_word m = ap (λ (w : List ℕ). drop 3 w) (sym (op-spaced o l) ∙ e ∙ op-spaced k m) in
+      let parts = one-field (op_name p o) (op_name p k) (op_level_word l) (op_level_word m) here.0 there.0 fields in
       let places : Some o ≡ Some k = sym here.1 ∙ ap (op_place p.types) parts.0 ∙ there.1 in
       (same_Some o k places, same-word l m parts.1)
 
@@ -191,7 +191,7 @@ module _ (source : List ℕ) (p : Program) (is : IsSourceOf source p) where
     op-text : (o : ℕ) → o < length (all_ops p.types) → op_line p levels o ≡ leveled-op p levels o ++ 10 ∷ []
     op-text o less =
         let at : slice_get levels.ops o ≡ Some (get_or levels.ops o Strong) = slice_get-get_or levels.ops o Strong (omega (arith, less, enough.ops)) in
-        ap (λ (r : Option Level). codes "op " ++ op_name p o ++ codes " " ++ option_map_or word_of r [] ++ codes "\n") at
+        ap (λ (r : Option Level). codes "op " ++ op_name p o ++ codes " " ++ option_map_or op_level_word r [] ++ codes "\n") at
 
     txn-text : (d : ℕ) → d < length p.txns → txn_line p levels d ≡ leveled-txn p levels d ++ 10 ∷ []
     txn-text d less =
@@ -266,7 +266,7 @@ module _ (source : List ℕ) (p : Program) (is : IsSourceOf source p) where
       let below = op_below p place name expected in
       let same : Operation (op_name p place) ≡ Operation name = same_Some (Operation (op_name p place)) (Operation name) (sym (expected_op p place below) ∙ expected) in
       let named : op_name p place ≡ name = cc in
-      subst (λ (n : List ℕ). IsOneLine (codes "op " ++ n ++ codes " " ++ word_of l)) named (op-one-line place l below)
+      subst (λ (n : List ℕ). IsOneLine (codes "op " ++ n ++ codes " " ++ op_level_word l)) named (op-one-line place l below)
   section-line place name (Txn l) expected =
       let above = txn_above p place name expected in
       let d = place - length (all_ops p.types) in
@@ -283,7 +283,7 @@ module _ (source : List ℕ) (p : Program) (is : IsSourceOf source p) where
       let below = op_below p place name expected in
       let same : Operation (op_name p place) ≡ Operation name = same_Some (Operation (op_name p place)) (Operation name) (sym (expected_op p place below) ∙ expected) in
       let named : op_name p place ≡ name = cc in
-      subst (λ (n : List ℕ). IsReported p (codes " accepted") ((codes "op " ++ n ++ codes " " ++ word_of l) ++ codes " accepted")) named (
+      subst (λ (n : List ℕ). IsReported p (codes " accepted") ((codes "op " ++ n ++ codes " " ++ op_level_word l) ++ codes " accepted")) named (
         both-line (op_with_level p place l) (codes " accepted") (op-one-line place l below) (spaced-line [] (codes "accepted") refl (solid-line (codes "accepted") refl)),
         inl (record { op = place; level = l; within = below; gives = gives; line = refl }),
       )

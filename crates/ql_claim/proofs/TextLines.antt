@@ -10,7 +10,7 @@ use Rattle.std.proofs.lemmas.Bool.{and_from, and_parts, cases_lt, eqb-true, lt-l
 use Rattle.ql_base.specs.Bytes.{is_name_byte}
 use Rattle.ql_base.specs.Names.{IsName}
 use Rattle.ql_base.specs.Ranges.{upto}
-use Rattle.ql_levels.specs.Words.{word_of, txn_word_of}
+use Rattle.ql_levels.specs.Words.{op_level_word, txn_word_of}
 use Rattle.ql_levels.specs.declared.level.Level.{Level}
 use Rattle.ql_levels.specs.declared.level.Level.TheVariants.{Eventual, Causal, Wide, Strong}
 use Rattle.ql_levels.specs.declared.level.TxnLevel.{TxnLevel}
@@ -207,7 +207,7 @@ final-decimal n = no-letter 32 (decimal n) (omega arith) (decimal-digits n)
 
 -- ---- the words of levels
 
-pub solid-word : (l : Level) → is_solid (word_of l) ≡ true
+pub solid-word : (l : Level) → is_solid (op_level_word l) ≡ true
 solid-word Eventual = refl
 solid-word Causal = refl
 solid-word Wide = refl
@@ -218,7 +218,7 @@ solid-txn-word Rc = refl
 solid-txn-word Mav = refl
 solid-txn-word Rr = refl
 
-pub same-word : (l m : Level) → word_of l ≡ word_of m → l ≡ m
+pub same-word : (l m : Level) → op_level_word l ≡ op_level_word m → l ≡ m
 same-word Eventual Eventual e = refl
 same-word Causal Causal e = refl
 same-word Wide Wide e = refl

@@ -22,7 +22,7 @@ use Rattle.ql_verify.specs.Work.{work_of}
 use Rattle.ql_claim.specs.Soundness.{op_with_level, txn_with_level}
 
 -- An execution keeps the levels that a text prints, a line for each target.
-pub record KeepsLevels (p : Program) (text : List ℕ) (x : List Effect) : Type 0 where
+pub record KeepsPrintedLevels (p : Program) (text : List ℕ) (x : List Effect) : Type 0 where
   -- at each effect the formula of its operation's level holds
   pub effects : (a : ℕ) (effect : Effect) (level : Level) → effect_at x a ≡ Some effect
       → Contains (lines text) (op_with_level p effect.op.0 level) → Holds x (formula_of level) a
@@ -58,7 +58,7 @@ pub record AreKeptInTurn (words : List (List ℕ)) (held : List ℕ → Option (
   pub execution : List Effect
   pub reports : ReportsExecution program file execution
   -- in which these levels are kept
-  pub kept : KeepsLevels program levels execution
+  pub kept : KeepsPrintedLevels program levels execution
 
 -- the status of the second call: every contract holds in the execution, or judging them is too much work
 abbrev pub IsUpheld : Program → List Effect → Status → Type 0

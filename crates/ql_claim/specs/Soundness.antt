@@ -9,7 +9,7 @@ use Rattle.ql_implication.specs.Executions.{IsImplied, IsImpliedTxn}
 use Rattle.ql_lang.specs.Formulas.{Resolved}
 use Rattle.ql_lang.specs.Programs.{source_of}
 use Rattle.ql_lang.specs.declared.program.Program.{Program}
-use Rattle.ql_levels.specs.Words.{word_of, txn_word_of}
+use Rattle.ql_levels.specs.Words.{op_level_word, txn_word_of}
 use Rattle.ql_levels.specs.declared.level.Level.{Level}
 use Rattle.ql_levels.specs.declared.level.TxnLevel.{TxnLevel}
 use Rattle.ql_parse.specs.Parsing.{IsProgramText}
@@ -19,7 +19,7 @@ use Rattle.ql_claim.specs.Headline.{Gained}
 
 -- the operation of a number with a level, as `op deposit causal`
 abbrev pub op_with_level : Program → ℕ → Level → List ℕ
-op_with_level p o level = codes "op " ++ op_name p o ++ codes " " ++ word_of level
+op_with_level p o level = codes "op " ++ op_name p o ++ codes " " ++ op_level_word level
 
 -- the declared transaction of a number with a level, as `txn audit rr`
 abbrev pub txn_with_level : Program → ℕ → TxnLevel → List ℕ

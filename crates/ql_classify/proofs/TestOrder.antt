@@ -14,7 +14,7 @@ use Rattle.ql_base.specs.declared.ids.DeclId.{DeclId}
 use Rattle.ql_levels.specs.declared.level.Level.{Level}
 use Rattle.ql_levels.specs.declared.level.Level.TheVariants.{Eventual}
 use Rattle.ql_levels.specs.declared.level.TxnLevel.{TxnLevel}
-use Rattle.ql_classify.specs.Outcome.{Test, OpHasLevel, UseIsWeak, TxnHasLevel, Passes, Fails, FirstFails, IsRefusal, IsAccepted, op_tests, use_tests, txn_tests, every_txn_tests, names_used}
+use Rattle.ql_classify.specs.Outcome.{Test, OpHasLevel, UseIsWeak, TxnHasLevel, Passes, Fails, FirstFails, IsLevelRefusal, IsAccepted, op_tests, use_tests, txn_tests, every_txn_tests, names_used}
 use Rattle.ql_classify.specs.Targets.{IsOpLevel, IsTxnLevel, IsWeakUse, IsStrongUse}
 use Rattle.ql_classify.specs.declared.classless.Classless.{Classless}
 use Rattle.ql_classify.specs.declared.classless.Classless.TheVariants.{NoLevel, StrongInTxn, NoMemory}
@@ -36,25 +36,25 @@ module _ (p : Program) where
   first-after (t ∷ tests) more e h g = inr (All-head (Passes p) t tests h, first-after tests more e (All-tail (Passes p) t tests h) g)
 
   -- a refusal for the first tests is one for all
-  pub refusal_longer : (tests more : List Test) (e : Classless) → IsRefusal p tests e → IsRefusal p (tests ++ more) e
+  pub refusal_longer : (tests more : List Test) (e : Classless) → IsLevelRefusal p tests e → IsLevelRefusal p (tests ++ more) e
   refusal_longer tests more (NoLevel t a) h = first-longer tests more (NoLevel t a) h
   refusal_longer tests more (StrongInTxn d o) h = first-longer tests more (StrongInTxn d o) h
   refusal_longer tests more NoMemory h = tt
 
   -- and so is one for the tests after those that pass
-  pub refusal_after : (tests more : List Test) (e : Classless) → All (Passes p) tests → IsRefusal p more e → IsRefusal p (tests ++ more) e
+  pub refusal_after : (tests more : List Test) (e : Classless) → All (Passes p) tests → IsLevelRefusal p more e → IsLevelRefusal p (tests ++ more) e
   refusal_after tests more (NoLevel t a) h g = first-after tests more (NoLevel t a) h g
   refusal_after tests more (StrongInTxn d o) h g = first-after tests more (StrongInTxn d o) h g
   refusal_after tests more NoMemory h g = tt
 
   -- a refusal at one place of a range, where all before it pass
-  pub refusal_upto : (n k : ℕ) (f : ℕ → List Test) (e : Classless) → k < n → All (Passes p) (upto k f) → IsRefusal p (f k) e → IsRefusal p (upto n f) e
+  pub refusal_upto : (n k : ℕ) (f : ℕ → List Test) (e : Classless) → k < n → All (Passes p) (upto k f) → IsLevelRefusal p (f k) e → IsLevelRefusal p (upto n f) e
   refusal_upto zero k f e l h g = absurd (omega arith)
   refusal_upto (suc n) k f e l h g = elim (cases_lt k n) [
     | inl less ↦ refusal_longer (upto n f) (f n) e (refusal_upto n k f e less h g)
     | inr more ↦
         let same : k ≡ n = omega arith in
-        refusal_after (upto n f) (f n) e (subst (λ z. All (Passes p) (upto z f)) same h) (subst (λ z. IsRefusal p (f z) e) same g)
+        refusal_after (upto n f) (f n) e (subst (λ z. All (Passes p) (upto z f)) same h) (subst (λ z. IsLevelRefusal p (f z) e) same g)
   ]
 
   -- the operations that have least levels pass

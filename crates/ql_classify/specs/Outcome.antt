@@ -66,6 +66,6 @@ FirstFails p [] e = ⊥
 FirstFails p (t ∷ tests) e = Fails p t e ⊎ (Passes p t × FirstFails p tests e)
 
 -- a refusal is that of the first test that fails, or out of memory, which may come at any point
-abbrev pub IsRefusal : Program → List Test → Classless → Type 0
-IsRefusal p tests NoMemory = Unit {0}
-IsRefusal p tests e = FirstFails p tests e
+abbrev pub IsLevelRefusal : Program → List Test → Classless → Type 0
+IsLevelRefusal p tests NoMemory = Unit {0}
+IsLevelRefusal p tests e = FirstFails p tests e

@@ -4,7 +4,7 @@ ghost use Rattle.std.specs.List.{All};
 ghost use Rattle.ql_ground.specs.OfPrograms.{IsGoalOf};
 ghost use Rattle.ql_typing.specs.Operations.{all_ops};
 ghost use Rattle.ql_classify.specs.Found.{IsAnswer, IsSearch};
-ghost use Rattle.ql_classify.specs.Outcome.{IsRefusal, OpHasLevel, TxnHasLevel};
+ghost use Rattle.ql_classify.specs.Outcome.{IsLevelRefusal, OpHasLevel, TxnHasLevel};
 ghost use Rattle.ql_classify.specs.Targets.{IsEvidence, op_at, txn_at, step_level, step_txn_level};
 
 use crate::classless::Classless;
@@ -38,7 +38,7 @@ enum Search {
 pub(crate) fn find_level(alloc: Global, t: &Typed, o: OpId) -> Result<(Level, Evidence), Classless>
     requires op { o.0 < length (all_ops t.now.program.types) }
     ensures least { IfOk result (λ found. IsEvidence t.now.program (op_at o.0 found.0) found.1) }
-    ensures none { IfErr result (IsRefusal t.now.program (OpHasLevel o.0 ∷ [])) }
+    ensures none { IfErr result (IsLevelRefusal t.now.program (OpHasLevel o.0 ∷ [])) }
 {
     let goals = [
         Goal::OpAt(o, Level::Eventual),
@@ -64,7 +64,7 @@ pub(crate) fn find_txn_level(
     requires txn { d.0 < length t.now.program.txns }
     requires few { length t.now.program.txns ≤ 16 }
     ensures least { IfOk result (λ found. IsEvidence t.now.program (txn_at d.0 found.0) found.1) }
-    ensures none { IfErr result (IsRefusal t.now.program (TxnHasLevel d.0 ∷ [])) }
+    ensures none { IfErr result (IsLevelRefusal t.now.program (TxnHasLevel d.0 ∷ [])) }
 {
     let goals = [
         Goal::TxnAt(d, TxnLevel::Rc),

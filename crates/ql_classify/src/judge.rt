@@ -1,7 +1,7 @@
 ghost use Rattle.std.specs.Prelude.{◌≡◌, ◌<◌, ◌≤◌, length, IfErr, IfOk, OnOk};
 ghost use Rattle.std.specs.List.{All, AllZip};
 ghost use Rattle.ql_typing.specs.Operations.{all_ops};
-ghost use Rattle.ql_classify.specs.Outcome.{IsAccepted, IsRefusal, Passes, all_tests, op_tests, txn_tests, every_txn_tests};
+ghost use Rattle.ql_classify.specs.Outcome.{IsAccepted, IsLevelRefusal, Passes, all_tests, op_tests, txn_tests, every_txn_tests};
 ghost use Rattle.ql_classify.specs.Targets.{AreOpLevels, IsEvidence, ops_from, txn_at, txns_from};
 
 use crate::classified::Classified;
@@ -25,7 +25,7 @@ pub fn classify<'a>(alloc: Global, t: &'a Typed) -> Result<Classified<'a>, Class
     ensures accepted { OnOk result (IsAccepted t.now.program) }
 
     // A refusal other than out of memory is returned only if some test fails, and is that of the first one.
-    ensures refused { IfErr result (IsRefusal t.now.program (all_tests t.now.program)) }
+    ensures refused { IfErr result (IsLevelRefusal t.now.program (all_tests t.now.program)) }
 {
     let (ops, mut evidence) = judge_ops(alloc, t)?;
     let (txns, mut more) = judge_txns(alloc, t, &ops)?;
@@ -39,7 +39,7 @@ fn judge_ops(alloc: Global, t: &Typed) -> Result<(Vec<Level>, Vec<Evidence>), Cl
         (λ found. length found.0.items ≡ length (all_ops t.now.program.types)) }
     ensures evidence { IfOk result
         (λ found. AllZip (IsEvidence t.now.program) (ops_from 0 found.0.items) found.1.items) }
-    ensures refused { IfErr result (IsRefusal t.now.program (op_tests t.now.program)) }
+    ensures refused { IfErr result (IsLevelRefusal t.now.program (op_tests t.now.program)) }
 {
     let mut levels = Vec::new(alloc);
     let mut evidence = Vec::new(alloc);
@@ -62,7 +62,7 @@ fn judge_txns(
     ensures evidence { IfOk result
         (λ found. AllZip (IsEvidence t.now.program) (txns_from 0 found.0.items) found.1.items) }
     ensures passed { OnOk result (All (Passes t.now.program) (every_txn_tests t.now.program)) }
-    ensures refused { IfErr result (IsRefusal t.now.program (every_txn_tests t.now.program)) }
+    ensures refused { IfErr result (IsLevelRefusal t.now.program (every_txn_tests t.now.program)) }
 {
     let mut levels = Vec::new(alloc);
     let mut evidence = Vec::new(alloc);
@@ -86,7 +86,7 @@ fn judge_txn(
     ensures evidence { IfOk result
         (λ found. IsEvidence t.now.program (txn_at d.0 found.0) found.1) }
     ensures passed { OnOk result (All (Passes t.now.program) (txn_tests t.now.program d.0)) }
-    ensures refused { IfErr result (IsRefusal t.now.program (txn_tests t.now.program d.0)) }
+    ensures refused { IfErr result (IsLevelRefusal t.now.program (txn_tests t.now.program d.0)) }
 {
     check_uses(t, d, ops)?;
     find_txn_level(alloc, t, d)

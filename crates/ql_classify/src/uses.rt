@@ -1,7 +1,7 @@
 // Whether a transaction uses a strong operation.
 ghost use Rattle.std.specs.Prelude.{◌≡◌, ◌<◌, length, slice_get, Some, IfErr, IfNone, IfSome, OnOk};
 ghost use Rattle.std.specs.List.{All};
-ghost use Rattle.ql_classify.specs.Outcome.{IsRefusal, Passes, use_tests};
+ghost use Rattle.ql_classify.specs.Outcome.{IsLevelRefusal, Passes, use_tests};
 ghost use Rattle.ql_classify.specs.Targets.{AreOpLevels, IsStrongUse, IsWeakUse};
 
 use crate::classless::Classless;
@@ -15,7 +15,7 @@ pub(crate) fn check_uses(t: &Typed, d: DeclId, levels: &[Level]) -> Result<(), C
     requires txn { d.0 < length t.now.program.txns }
     requires levels { AreOpLevels t.now.program levels.now }
     ensures passed { OnOk result (All (Passes t.now.program) (use_tests t.now.program d.0)) }
-    ensures strong { IfErr result (IsRefusal t.now.program (use_tests t.now.program d.0)) }
+    ensures strong { IfErr result (IsLevelRefusal t.now.program (use_tests t.now.program d.0)) }
 {
     for name in t.txn(d).uses.items() {
         if let Some(op) = strong_use(t, name.word.bytes(), levels) {

@@ -6,7 +6,7 @@ use Rattle.std.proofs.lemmas.Option.{slice_get_within}
 use Rattle.ql_base.specs.Ranges.{upto}
 use Rattle.ql_lang.specs.declared.name.Name.{Name}
 use Rattle.ql_lang.specs.declared.program.Program.{Program}
-use Rattle.ql_classify.specs.Outcome.{Test, OpHasLevel, UseIsWeak, TxnHasLevel, FirstFails, IsRefusal, all_tests, op_tests, use_tests, txn_tests, every_txn_tests, names_used}
+use Rattle.ql_classify.specs.Outcome.{Test, OpHasLevel, UseIsWeak, TxnHasLevel, FirstFails, IsLevelRefusal, all_tests, op_tests, use_tests, txn_tests, every_txn_tests, names_used}
 use Rattle.ql_lang.specs.Formulas.{Resolved}
 use Rattle.ql_classify.specs.declared.classless.Classless.{Classless}
 use Rattle.ql_classify.specs.declared.classless.Classless.TheVariants.{NoLevel, StrongInTxn, NoMemory}
@@ -72,13 +72,13 @@ module _ (p : Program) where
   ]
 
   -- the same of any refusal
-  pub refusal_names_targets : (e : Classless) → IsRefusal p (all_tests p) e → NamesTargets p e
+  pub refusal_names_targets : (e : Classless) → IsLevelRefusal p (all_tests p) e → NamesTargets p e
   refusal_names_targets (NoLevel target a) h = names_targets (NoLevel target a) h
   refusal_names_targets (StrongInTxn txn op) h = names_targets (StrongInTxn txn op) h
   refusal_names_targets NoMemory h = tt
 
   -- and a refusal that isn't out of memory reports the first test that fails
-  pub first_fails : (e : Classless) → IsRefusal p (all_tests p) e → (e ≡ NoMemory → ⊥) → FirstFails p (all_tests p) e
+  pub first_fails : (e : Classless) → IsLevelRefusal p (all_tests p) e → (e ≡ NoMemory → ⊥) → FirstFails p (all_tests p) e
   first_fails (NoLevel target a) h known = h
   first_fails (StrongInTxn txn op) h known = h
   first_fails NoMemory h known = absurd (known refl)

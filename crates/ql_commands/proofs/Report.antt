@@ -2,7 +2,7 @@
 use Rattle.std.proofs.Common.{◌≡◌, ◌≢◌, inr, ℕ, suc, ◌+◌, List, [], ◌∷◌, ◌++◌, length, Some, sym, ap, subst, ◌∙◌, arith, add-one, append_assoc}
 use Rattle.std.proofs.lemmas.List.{append-nil}
 use Rattle.ql_cert.specs.CertFile.{IsCertFile}
-use Rattle.ql_cert.specs.Faults.{IsRefusal}
+use Rattle.ql_cert.specs.Faults.{IsCertRefusal}
 use Rattle.ql_cert.specs.declared.cert.Section.{Section}
 use Rattle.ql_cert.specs.declared.fault.CertFault.{CertFault}
 use Rattle.ql_cert.specs.declared.fault.CertFault.TheVariants.{Unexpected, Number, NoMemory}
@@ -82,7 +82,7 @@ sections_say p ss WriteFault start new expected e reported = absurd (yes-or-no p
 sections_say p ss Usage start new expected e reported = absurd (yes-or-no p 0 ss Usage reported.0 reported.1)
 sections_say p ss TooLarge start new expected e reported = absurd (yes-or-no p 0 ss TooLarge reported.0 reported.1)
 
-pub cert_is_bad : (bytes : List ℕ) (f : CertFault) (text : List ℕ) → IsRefusal IsCertFile (ahead_from 1 bytes) f → cert_fault_text f ≡ Some text → BadCertSays bytes text
+pub cert_is_bad : (bytes : List ℕ) (f : CertFault) (text : List ℕ) → IsCertRefusal IsCertFile (ahead_from 1 bytes) f → cert_fault_text f ≡ Some text → BadCertSays bytes text
 cert_is_bad bytes (Unexpected line) text h e = (no_file IsCertFile (ahead_from 1 bytes) (Unexpected line) h, Unexpected line, h, e)
 cert_is_bad bytes (Number line) text h e = (no_file IsCertFile (ahead_from 1 bytes) (Number line) h, Number line, h, e)
 cert_is_bad bytes NoMemory text h e = absurd (cc)

@@ -5,14 +5,14 @@ use Rattle.ql_cert.specs.Spelling.{IsHint, IsLine}
 use Rattle.ql_refute.specs.declared.refutation.Hint.{Hint}
 use Rattle.ql_refute.specs.declared.refutation.Hint.TheVariants.{Given, Earlier}
 use Rattle.ql_refute.specs.declared.refutation.Line.{Line}
-use Rattle.ql_sat.specs.Answer.{IsNumbered, IsNumberedLine}
+use Rattle.ql_sat.specs.Answer.{IsHintNumbered, IsNumberedLine}
 
-spelled_hint : (h : Hint) → IsNumbered h → IsHint h
+spelled_hint : (h : Hint) → IsHintNumbered h → IsHint h
 unfolding IsHint
 spelled_hint (Given n) h = h
 spelled_hint (Earlier n) h = h
 
-spelled_hints : (hs : List Hint) → AllByRecursion IsNumbered hs → AllByRecursion IsHint hs
+spelled_hints : (hs : List Hint) → AllByRecursion IsHintNumbered hs → AllByRecursion IsHint hs
 spelled_hints [] all = tt
 spelled_hints (h ∷ hs) all = (spelled_hint h all.0, spelled_hints hs all.1)
 

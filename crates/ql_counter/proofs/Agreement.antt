@@ -14,7 +14,7 @@ use Rattle.ql_counter.specs.declared.slot.Part.TheVariants.{Opening, Aide, Own, 
 use Rattle.ql_counter.specs.declared.slot.Slot.{Slot}
 use Rattle.ql_counter.specs.declared.slot.Extra.{Extra}
 use Rattle.ql_counter.specs.Patterns.{Pattern, least, leader, one_session, object_of, session_of}
-use Rattle.ql_counter.specs.Lawful.{Has, IsLawful}
+use Rattle.ql_counter.specs.Lawful.{AreRelated, IsLawful}
 use Rattle.ql_counter.specs.Blocks.{has_part, is_link, slot_of}
 use Rattle.ql_counter.specs.Built.{sees, object_in, built, is_own, is_own_part, constant_place}
 use Rattle.ql_counter.specs.Naming.{Shows, named_by}
@@ -99,11 +99,11 @@ module _ (p : Pattern) (law : IsLawful p) (extra : Extra) (slots : List Slot) (a
       (λ h. object-from p slots (place c) (place d) i.0 j.0 (on c l ∙ class-from p.count (p.rel kind.SameObj) (objects p law) (leader p c) (leader p d) (to-leaders p law kind.SameObj c d h) ∙ sym (on d m)))
 
   -- places of blocks in session order
-  blocks-so : (b c : ℕ) → Has p kind.So b c → (a d : ℕ) → There slots a → There slots d → (at a).block ≡ b → (at d).block ≡ c → so x a d ≡ true
+  blocks-so : (b c : ℕ) → AreRelated p kind.So b c → (a d : ℕ) → There slots a → There slots d → (at a).block ≡ b → (at d).block ≡ c → so x a d ≡ true
   blocks-so b c h a d i j e f =
       let one : session_of p (at a).block ≡ session_of p (at d).block =
       ap (session_of p) e ∙ class-from p.count (one_session p) (sessions p law) b c (session-of p law b c (inl h)) ∙ ap (session_of p) (sym f) in
-      so-from p slots a d i j one (arranged.forward a d i j (subst (λ k. Has p kind.Hb k (at d).block) (sym e) (subst (λ k. Has p kind.Hb b k) (sym f) (law.so_hb b c h))))
+      so-from p slots a d i j one (arranged.forward a d i j (subst (λ k. AreRelated p kind.Hb k (at d).block) (sym e) (subst (λ k. AreRelated p kind.Hb b k) (sym f) (law.so_hb b c h))))
 
   pub so-agrees : (c d : ℕ) → c < p.count → d < p.count → so x (place c) (place d) ≡ p.rel kind.So c d
   so-agrees c d l m =
@@ -112,12 +112,12 @@ module _ (p : Pattern) (law : IsLawful p) (extra : Extra) (slots : List Slot) (a
       one_value _ _ (λ h. order c d l m h (so-block p law extra slots arranged (place c) (place d) h))
       (λ h. blocks-so (leader p c) (leader p d) (to-leaders p law kind.So c d h) (place c) (place d) i.0 j.0 (block-is c l) (block-is d m))
     where
-      order : (c d : ℕ) → c < p.count → d < p.count → so x (place c) (place d) ≡ true → ((at (place c)).block ≡ (at (place d)).block) ⊎ Has p kind.So (at (place c)).block (at (place d)).block → Has p kind.So c d
+      order : (c d : ℕ) → c < p.count → d < p.count → so x (place c) (place d) ≡ true → ((at (place c)).block ≡ (at (place d)).block) ⊎ AreRelated p kind.So (at (place c)).block (at (place d)).block → AreRelated p kind.So c d
       order c d l m h (inl same) =
           let less = (so-to p slots (place c) (place d) h).3 in
           let one = one-place c d l m (sym (block-is c l) ∙ same ∙ block-is d m) in
           absurd (omega (arith, less, one))
-      order c d l m h (inr before) = from-leaders p law kind.So c d l m (subst (λ k. Has p kind.So (leader p c) k) (block-is d m) (subst (λ k. Has p kind.So k (at (place d)).block) (block-is c l) before))
+      order c d l m h (inr before) = from-leaders p law kind.So c d l m (subst (λ k. AreRelated p kind.So (leader p c) k) (block-is d m) (subst (λ k. AreRelated p kind.So k (at (place d)).block) (block-is c l) before))
 
   -- parts of one block are in session order
   parts-so : (a b : ℕ) → There slots a → There slots b → (at a).block ≡ (at b).block → a < b → so x a b ≡ true
@@ -130,17 +130,17 @@ module _ (p : Pattern) (law : IsLawful p) (extra : Extra) (slots : List Slot) (a
   apart : (c d : ℕ) → c < p.count → d < p.count → place c < place d → (at (place c)).block ≡ (at (place d)).block → ⊥
   apart c d l m less same = let one = one-place c d l m (sym (block-is c l) ∙ same ∙ block-is d m) in omega (arith, less, one)
 
-  of-leaders : (r : PairKind) (c d : ℕ) → c < p.count → d < p.count → Has p r (at (place c)).block (at (place d)).block → Has p r c d
-  of-leaders r c d l m h = from-leaders p law r c d l m (subst (λ k. Has p r (leader p c) k) (block-is d m) (subst (λ k. Has p r k (at (place d)).block) (block-is c l) h))
+  of-leaders : (r : PairKind) (c d : ℕ) → c < p.count → d < p.count → AreRelated p r (at (place c)).block (at (place d)).block → AreRelated p r c d
+  of-leaders r c d l m h = from-leaders p law r c d l m (subst (λ k. AreRelated p r (leader p c) k) (block-is d m) (subst (λ k. AreRelated p r k (at (place d)).block) (block-is c l) h))
 
   sees-there : (a b : ℕ) (s t : Slot) → There slots a → There slots b → at a ≡ s → at b ≡ t → sees p s t ≡ true → vis x a b ≡ true
   sees-there a b s t i j e f h = vis-from p slots a b i j (ap (λ u. sees p u (at b)) e ∙ ap (λ u. sees p s u) f ∙ h)
 
   -- ---- happens-before on one object
-  hbo-to : (c d : ℕ) → c < p.count → d < p.count → hbo x (place c) (place d) ≡ true → Has p kind.Hbo c d
+  hbo-to : (c d : ℕ) → c < p.count → d < p.count → hbo x (place c) (place d) ≡ true → AreRelated p kind.Hbo c d
   hbo-to c d l m h = near (hbo-blocks p law extra slots arranged (place c) (place d) h).2
     where
-      near : Near p law extra slots arranged (place c) (place d) → Has p kind.Hbo c d
+      near : Near p law extra slots arranged (place c) (place d) → AreRelated p kind.Hbo c d
       near (inl far) = absurd (both_ways (is_far Own) refl (ap is_far (sym (part-is c l)) ∙ far.0))
       near (inr (f, g, inl same)) = absurd (apart c d l m (hbo-less p law extra slots arranged (place c) (place d) h) same)
       near (inr (f, g, inr before)) = of-leaders kind.Hbo c d l m before
@@ -154,12 +154,12 @@ module _ (p : Pattern) (law : IsLawful p) (extra : Extra) (slots : List Slot) (a
       let order : u < v = arranged.parts u v i j same (omega (arith, first, second, less)) in
       (parts-so u v i j same order, order)
 
-  hbo-from : extra.aides ≡ true → (c d : ℕ) → c < p.count → d < p.count → Has p kind.Hbo c d → hbo x (place c) (place d) ≡ true
+  hbo-from : extra.aides ≡ true → (c d : ℕ) → c < p.count → d < p.count → AreRelated p kind.Hbo c d → hbo x (place c) (place d) ≡ true
   hbo-from aides c d l m h =
       let i = place-is c l in
       let j = place-is d m in
       let b : ℕ = leader p d in
-      let led : Has p kind.Hbo (leader p c) b = to-leaders p law kind.Hbo c d h in
+      let led : AreRelated p kind.Hbo (leader p c) b = to-leaders p law kind.Hbo c d h in
       elim (cases_Bool (p.rel kind.Vis (leader p c) b)) [
         | inl seen ↦ leads-step (hbo_step x) (place c) (place d) (or_right (soo x (place c) (place d)) _ (sees-there (place c) (place d) (own (leader p c)) (own b) i.0 j.0 i.1 j.1 seen))
         | inr unseen ↦
@@ -178,20 +178,20 @@ module _ (p : Pattern) (law : IsLawful p) (extra : Extra) (slots : List Slot) (a
   hbo-agrees aides c d l m = one_value _ _ (hbo-to c d l m) (hbo-from aides c d l m)
 
   -- ---- happens-before
-  hb-to : (c d : ℕ) → c < p.count → d < p.count → hb x (place c) (place d) ≡ true → Has p kind.Hb c d
+  hb-to : (c d : ℕ) → c < p.count → d < p.count → hb x (place c) (place d) ≡ true → AreRelated p kind.Hb c d
   hb-to c d l m h = along (hb-blocks p law extra slots arranged (place c) (place d) h).2
     where
-      along : Along p law extra slots arranged (Has p kind.Hb) (at (place c)).block (at (place d)).block → Has p kind.Hb c d
+      along : Along p law extra slots arranged (AreRelated p kind.Hb) (at (place c)).block (at (place d)).block → AreRelated p kind.Hb c d
       along (inl same) = absurd (apart c d l m (hb-less p law extra slots arranged (place c) (place d) h) same)
       along (inr before) = of-leaders kind.Hb c d l m before
 
-  hb-from : extra.links ≡ true → (c d : ℕ) → c < p.count → d < p.count → Has p kind.Hb c d → hb x (place c) (place d) ≡ true
+  hb-from : extra.links ≡ true → (c d : ℕ) → c < p.count → d < p.count → AreRelated p kind.Hb c d → hb x (place c) (place d) ≡ true
   hb-from links c d l m h =
       let i = place-is c l in
       let j = place-is d m in
       let a : ℕ = leader p c in
       let b : ℕ = leader p d in
-      let led : Has p kind.Hb a b = to-leaders p law kind.Hb c d h in
+      let led : AreRelated p kind.Hb a b = to-leaders p law kind.Hb c d h in
       elim (cases_Bool (p.rel kind.So a b)) [
         | inl order ↦ leads-step (hb_step x) (place c) (place d) (or_left (so x (place c) (place d)) _ (so-agrees c d l m ∙ from-leaders p law kind.So c d l m order))
         | inr apart_sessions ↦ elim (cases_Bool (p.rel kind.Vis a b)) [

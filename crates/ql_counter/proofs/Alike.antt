@@ -4,7 +4,7 @@ use Rattle.std.proofs.lemmas.Bool.{or_cases, or_left, or_right}
 use Rattle.ql_atoms.specs.declared.atoms.PairKind.{PairKind}
 use Rattle.ql_atoms.specs.declared.atoms.PairKind.TheVariants.{Eq, So, SameObj}
 use Rattle.ql_counter.specs.Patterns.{Pattern, leader, one_session}
-use Rattle.ql_counter.specs.Lawful.{Has, IsLawful}
+use Rattle.ql_counter.specs.Lawful.{AreRelated, IsLawful}
 use Rattle.ql_counter.proofs.EqualConstants.{IsEquivalence, class-within, class-from, class-to}
 
 -- a constant that leads its class
@@ -18,26 +18,26 @@ module _ (p : Pattern) (law : IsLawful p) where
   pub leader-within : (c : ℕ) → c < p.count → leader p c < p.count
   leader-within c l = (class-within p.count (p.rel Eq) equal c l).0
 
-  pub leader-equal : (c : ℕ) → c < p.count → Has p Eq (leader p c) c
+  pub leader-equal : (c : ℕ) → c < p.count → AreRelated p Eq (leader p c) c
   leader-equal c l = (class-within p.count (p.rel Eq) equal c l).1
 
-  pub one-leader : (c d : ℕ) → Has p Eq c d → leader p c ≡ leader p d
+  pub one-leader : (c d : ℕ) → AreRelated p Eq c d → leader p c ≡ leader p d
   one-leader c d h = class-from p.count (p.rel Eq) equal c d h
 
   pub leader-leads : (c : ℕ) → c < p.count → Leads p (leader p c)
   leader-leads c l = one-leader (leader p c) c (leader-equal c l)
 
-  pub led-equal : (c d : ℕ) → c < p.count → d < p.count → leader p c ≡ leader p d → Has p Eq c d
+  pub led-equal : (c d : ℕ) → c < p.count → d < p.count → leader p c ≡ leader p d → AreRelated p Eq c d
   led-equal c d l m h = class-to p.count (p.rel Eq) equal c d l m h
 
-  pub one-block : (b c : ℕ) → Leads p b → Leads p c → Has p Eq b c → b ≡ c
+  pub one-block : (b c : ℕ) → Leads p b → Leads p c → AreRelated p Eq b c → b ≡ c
   one-block b c l m h = sym l ∙ one-leader b c h ∙ m
 
   -- a relation holds of two constants where it does of their leaders
-  pub from-leaders : (r : PairKind) (c d : ℕ) → c < p.count → d < p.count → Has p r (leader p c) (leader p d) → Has p r c d
+  pub from-leaders : (r : PairKind) (c d : ℕ) → c < p.count → d < p.count → AreRelated p r (leader p c) (leader p d) → AreRelated p r c d
   from-leaders r c d l m h = law.alike_left r (leader p c) c d (leader-equal c l) (law.alike_right r (leader p d) d (leader p c) (leader-equal d m) h)
 
-  pub to-leaders : (r : PairKind) (c d : ℕ) → Has p r c d → Has p r (leader p c) (leader p d)
+  pub to-leaders : (r : PairKind) (c d : ℕ) → AreRelated p r c d → AreRelated p r (leader p c) (leader p d)
   to-leaders r c d h =
       let l = law.within r c d h in
       law.alike_left r c (leader p c) (leader p d) (law.eq_sym _ _ (leader-equal c l.0))
@@ -48,7 +48,7 @@ module _ (p : Pattern) (law : IsLawful p) where
 
   -- ---- sessions
   abbrev pub InSession : ℕ → ℕ → Type 0
-  InSession i j = Has p So i j ⊎ (Has p So j i ⊎ Has p Eq i j)
+  InSession i j = AreRelated p So i j ⊎ (AreRelated p So j i ⊎ AreRelated p Eq i j)
 
   pub session-cases : (i j : ℕ) → one_session p i j ≡ true → InSession i j
   session-cases i j h = elim (or_cases (p.rel So i j) _ h) [

@@ -14,7 +14,7 @@ use Rattle.ql_counter.specs.declared.slot.Part.TheVariants.{Opening, Aide, Own, 
 use Rattle.ql_counter.specs.declared.slot.Slot.{Slot}
 use Rattle.ql_counter.specs.declared.slot.Extra.{Extra}
 use Rattle.ql_counter.specs.Patterns.{Pattern, one_session, session_of}
-use Rattle.ql_counter.specs.Lawful.{Has, IsLawful, IsGrouped}
+use Rattle.ql_counter.specs.Lawful.{AreRelated, IsLawful, IsGrouped}
 use Rattle.ql_counter.specs.Blocks.{has_part, slot_of}
 use Rattle.ql_counter.specs.Built.{sees_as, sees, object_in, places_from, stored_after, drafts_of, built}
 use Rattle.ql_counter.proofs.EqualConstants.{class-from, class-to}
@@ -33,7 +33,7 @@ pub record IsArranged (p : Pattern) (extra : Extra) (slots : List Slot) : Type 0
   pub block : (a : ℕ) → There slots a → ((slot_at slots a).block < p.count) × Leads p (slot_at slots a).block
   pub only : (a : ℕ) → There slots a → has_part p extra (slot_at slots a).block (slot_at slots a).part ≡ true
   pub has : (b : ℕ) (part : Part) → b < p.count → Leads p b → has_part p extra b part ≡ true → (a : ℕ) × There slots a × (slot_at slots a ≡ slot_of b part)
-  pub forward : (a b : ℕ) → There slots a → There slots b → Has p Hb (slot_at slots a).block (slot_at slots b).block → a < b
+  pub forward : (a b : ℕ) → There slots a → There slots b → AreRelated p Hb (slot_at slots a).block (slot_at slots b).block → a < b
   pub parts : (a b : ℕ) → There slots a → There slots b → (slot_at slots a).block ≡ (slot_at slots b).block → part_place (slot_at slots a).part < part_place (slot_at slots b).part → a < b
   pub once : (a b : ℕ) → There slots a → There slots b → slot_at slots a ≡ slot_at slots b → a ≡ b
 
@@ -71,7 +71,7 @@ none-stamped (e ∷ before) effect after is = absurd (let n = ap length is in om
 
 module _ (p : Pattern) (law : IsLawful p) where
   -- what sees happens after
-  pub sees-hb : (s t : Part) (b c : ℕ) → sees_as p s t b c ≡ true → Has p Hb b c
+  pub sees-hb : (s t : Part) (b c : ℕ) → sees_as p s t b c ≡ true → AreRelated p Hb b c
   sees-hb Own Own b c h = law.vis_hb b c h
   sees-hb Aide Own b c h = law.vis_hb b c h
   sees-hb Own Aide b c h = law.hbo_hb b c h
@@ -101,7 +101,7 @@ module _ (p : Pattern) (law : IsLawful p) where
         arranged.forward a b v.0 v.1 (sees-hb (at a).part (at b).part (at a).block (at b).block v.2)
 
     -- effects in session order are in one block, or their blocks are in session order
-    pub so-block : (a b : ℕ) → so x a b ≡ true → ((at a).block ≡ (at b).block) ⊎ Has p So (at a).block (at b).block
+    pub so-block : (a b : ℕ) → so x a b ≡ true → ((at a).block ≡ (at b).block) ⊎ AreRelated p So (at a).block (at b).block
     so-block a b h =
         let s = so-to p slots a b h in
         let i = arranged.block a s.0 in
@@ -156,7 +156,7 @@ module _ (p : Pattern) (law : IsLawful p) where
         stamped = stamped-all [] (drafts_of p slots) none-stamped;
       }
         where
-          between : (i j k : ℕ) → same_run (p.member i) (p.member k) ≡ true → (i ≡ j) ⊎ Has p So i j → (j ≡ k) ⊎ Has p So j k → same_run (p.member i) (p.member j) ≡ true
+          between : (i j k : ℕ) → same_run (p.member i) (p.member k) ≡ true → (i ≡ j) ⊎ AreRelated p So i j → (j ≡ k) ⊎ AreRelated p So j k → same_run (p.member i) (p.member j) ≡ true
           between i j k h (inl same) next = subst (λ m. same_run (p.member i) (p.member m) ≡ true) same (same_run-join (p.member i) (p.member i) (p.member k) h h)
           between i j k h (inr before) (inl same) = subst (λ m. same_run (p.member i) (p.member m) ≡ true) (sym same) h
           between i j k h (inr before) (inr next) = grouped.unbroken i j k h before next

@@ -8,7 +8,7 @@ use Rattle.ql_counter.specs.declared.slot.Part.TheVariants.{Opening, Aide, Own, 
 use Rattle.ql_counter.specs.declared.slot.Slot.{Slot}
 use Rattle.ql_counter.specs.declared.slot.Extra.{Extra}
 use Rattle.ql_counter.specs.Patterns.{Pattern, leader}
-use Rattle.ql_counter.specs.Lawful.{Has, IsLawful}
+use Rattle.ql_counter.specs.Lawful.{AreRelated, IsLawful}
 use Rattle.ql_counter.specs.Blocks.{has_part, slot_of, part_slots, block_slots, rank, ranked_slots, slots_of}
 use Rattle.ql_counter.proofs.Alike.{Leads}
 use Rattle.ql_counter.proofs.Building.{There, own, slot_at}
@@ -171,7 +171,7 @@ module _ (p : Pattern) (law : IsLawful p) (extra : Extra) where
   abbrev at : ℕ → Slot
   at a = slot_at slots a
 
-  rank-less : (b c : ℕ) → Has p Hb b c → rank p b < rank p c
+  rank-less : (b c : ℕ) → AreRelated p Hb b c → rank p b < rank p c
   rank-less b c h = count-less p.count (λ a. p.rel Hb a b) (λ a. p.rel Hb a c) (λ k g. law.hb_trans k b c g h) b (law.within Hb b c h).0 (false_from_ne_true (p.rel Hb b b) (law.hb_irreflexive b)) h
 
   placed : (a : ℕ) → There slots a → Placed p extra (at a)

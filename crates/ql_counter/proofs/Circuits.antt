@@ -13,7 +13,7 @@ use Rattle.ql_lang.specs.declared.relation.RelName.{RelName}
 use Rattle.ql_lang.specs.declared.relation.RelName.TheVariants.{Vis, So, Soo, SameObj, Eq, Hb, Hbo}
 use Rattle.ql_lang.specs.declared.formula.Term.{Term}
 use Rattle.ql_typing.specs.ContractFaults.{is_closure}
-use Rattle.ql_typing.specs.WellFormed.{IsTermOf, AreTermsOf, IsBodyOf, IsPlain, HasNoClosure, HasNoTxn}
+use Rattle.ql_typing.specs.WellFormed.{IsTermOf, AreTermsOf, IsBodyOf, IsWithoutClosures, HasNoClosure, HasNoTxn}
 use Rattle.ql_ground.specs.Bodies.{constant_of, holds, fails, named_circuit, relation_circuit, grouped, all_of, other_circuits, txn_circuit, body_circuit}
 use Rattle.ql_exec.specs.declared.effect.Effect.{Effect}
 use Rattle.ql_exec.specs.Relations.{sametxn}
@@ -79,7 +79,7 @@ statement-shown extra (InOneTxn members others) v h g = absurd v
 pub extra-shows : (p : Statement) → HasNoTxn p → ShowsAll (extra_of p) false p
 extra-shows p v = statement-shown (extra_of p) p v (λ n. n) (λ n. n)
 
-plain-relation : (r : Relation) → IsPlain r → ShowsRelation no_parts r
+plain-relation : (r : Relation) → IsWithoutClosures r → ShowsRelation no_parts r
 plain-relation (Basic name at) h = plain name h
   where
     plain : (name : RelName) → is_closure name ≡ false → Shows no_parts name

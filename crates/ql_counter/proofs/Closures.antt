@@ -12,7 +12,7 @@ use Rattle.ql_counter.specs.declared.slot.Part.TheVariants.{Opening, Aide, Own, 
 use Rattle.ql_counter.specs.declared.slot.Slot.{Slot}
 use Rattle.ql_counter.specs.declared.slot.Extra.{Extra}
 use Rattle.ql_counter.specs.Patterns.{Pattern, object_of}
-use Rattle.ql_counter.specs.Lawful.{Has, IsLawful}
+use Rattle.ql_counter.specs.Lawful.{AreRelated, IsLawful}
 use Rattle.ql_counter.specs.Built.{sees_as, object_in, built}
 use Rattle.ql_counter.proofs.EqualConstants.{class-within, class-to}
 use Rattle.ql_counter.proofs.Alike.{objects}
@@ -43,9 +43,9 @@ module _ (p : Pattern) (law : IsLawful p) where
 
   -- on one object: both far, or neither, and their blocks on one object
   abbrev pub OnOne : Part → Part → ℕ → ℕ → Type 0
-  OnOne s t b c = ((is_far s ≡ true) × (is_far t ≡ true)) ⊎ ((is_far s ≡ false) × (is_far t ≡ false) × Has p SameObj b c)
+  OnOne s t b c = ((is_far s ≡ true) × (is_far t ≡ true)) ⊎ ((is_far s ≡ false) × (is_far t ≡ false) × AreRelated p SameObj b c)
 
-  same-object : (b c : ℕ) → b < p.count → c < p.count → object_of p b ≡ object_of p c → Has p SameObj b c
+  same-object : (b c : ℕ) → b < p.count → c < p.count → object_of p b ≡ object_of p c → AreRelated p SameObj b c
   same-object b c l m h = class-to p.count (p.rel SameObj) (objects p law) b c l m h
 
   never : (b : ℕ) → b < p.count → object_of p b ≡ p.count → ⊥
@@ -70,7 +70,7 @@ module _ (p : Pattern) (law : IsLawful p) where
   objects-split Closing Closing b c l m h = inl (refl, refl)
 
   -- what sees: far, or what happens before on one object
-  pub sees-hbo : (s t : Part) (b c : ℕ) → sees_as p s t b c ≡ true → ((is_far s ≡ true) × (is_far t ≡ true)) ⊎ ((is_far s ≡ false) × (is_far t ≡ false) × Has p Hbo b c)
+  pub sees-hbo : (s t : Part) (b c : ℕ) → sees_as p s t b c ≡ true → ((is_far s ≡ true) × (is_far t ≡ true)) ⊎ ((is_far s ≡ false) × (is_far t ≡ false) × AreRelated p Hbo b c)
   sees-hbo Own Own b c h = inr (refl, refl, law.vis_hbo b c h)
   sees-hbo Aide Own b c h = inr (refl, refl, law.vis_hbo b c h)
   sees-hbo Own Aide b c h = inr (refl, refl, h)
@@ -108,7 +108,7 @@ module _ (p : Pattern) (law : IsLawful p) where
 
     -- ---- happens-before
     abbrev HbBlocks : ℕ → ℕ → Type 0
-    HbBlocks a b = There slots a × There slots b × Along (Has p Hb) (at a).block (at b).block
+    HbBlocks a b = There slots a × There slots b × Along (AreRelated p Hb) (at a).block (at b).block
 
     hb-one : (a b : ℕ) → hb_step x a b ≡ true → HbBlocks a b
     hb-one a b h = elim (or_cases (so x a b) (vis x a b) h) [
@@ -120,24 +120,24 @@ module _ (p : Pattern) (law : IsLawful p) where
           (v.0, v.1, inr (sees-hb p law (at a).part (at b).part (at a).block (at b).block v.2))
     ]
       where
-        wider : ((at a).block ≡ (at b).block) ⊎ Has p So (at a).block (at b).block → Along (Has p Hb) (at a).block (at b).block
+        wider : ((at a).block ≡ (at b).block) ⊎ AreRelated p So (at a).block (at b).block → Along (AreRelated p Hb) (at a).block (at b).block
         wider (inl same) = inl same
         wider (inr before) = inr (law.so_hb _ _ before)
 
-    pub hb-blocks : (a b : ℕ) → hb x a b ≡ true → There slots a × There slots b × Along (Has p Hb) (at a).block (at b).block
-    hb-blocks a b h = leads-within (hb_step x) HbBlocks hb-one (λ a b c f g. (f.0, g.1, along (Has p Hb) law.hb_trans (at a).block (at b).block (at c).block f.2 g.2)) a b h
+    pub hb-blocks : (a b : ℕ) → hb x a b ≡ true → There slots a × There slots b × Along (AreRelated p Hb) (at a).block (at b).block
+    hb-blocks a b h = leads-within (hb_step x) HbBlocks hb-one (λ a b c f g. (f.0, g.1, along (AreRelated p Hb) law.hb_trans (at a).block (at b).block (at c).block f.2 g.2)) a b h
 
     -- ---- happens-before on one object
     abbrev pub Near : ℕ → ℕ → Type 0
     Near a b =
         ((is_far (at a).part ≡ true) × (is_far (at b).part ≡ true))
-        ⊎ ((is_far (at a).part ≡ false) × (is_far (at b).part ≡ false) × Along (Has p Hbo) (at a).block (at b).block)
+        ⊎ ((is_far (at a).part ≡ false) × (is_far (at b).part ≡ false) × Along (AreRelated p Hbo) (at a).block (at b).block)
 
     near : (a b c : ℕ) → Near a b → Near b c → Near a c
     near a b c (inl f) (inl g) = inl (f.0, g.1)
     near a b c (inl f) (inr g) = absurd (both_ways _ g.0 f.1)
     near a b c (inr f) (inl g) = absurd (both_ways _ f.1 g.0)
-    near a b c (inr f) (inr g) = inr (f.0, g.1, along (Has p Hbo) law.hbo_trans (at a).block (at b).block (at c).block f.2 g.2)
+    near a b c (inr f) (inr g) = inr (f.0, g.1, along (AreRelated p Hbo) law.hbo_trans (at a).block (at b).block (at c).block f.2 g.2)
 
     abbrev HboBlocks : ℕ → ℕ → Type 0
     HboBlocks a b = There slots a × There slots b × Near a b
@@ -156,12 +156,12 @@ module _ (p : Pattern) (law : IsLawful p) where
           (v.0, v.1, seen_one (sees-hbo (at a).part (at b).part (at a).block (at b).block v.2))
     ]
       where
-        ordered : OnOne (at a).part (at b).part (at a).block (at b).block → ((at a).block ≡ (at b).block) ⊎ Has p So (at a).block (at b).block → Near a b
+        ordered : OnOne (at a).part (at b).part (at a).block (at b).block → ((at a).block ≡ (at b).block) ⊎ AreRelated p So (at a).block (at b).block → Near a b
         ordered (inl far) one = inl far
         ordered (inr on) (inl same) = inr (on.0, on.1, inl same)
         ordered (inr on) (inr before) = inr (on.0, on.1, inr (law.so_hbo _ _ before on.2))
 
-        seen_one : ((is_far (at a).part ≡ true) × (is_far (at b).part ≡ true)) ⊎ ((is_far (at a).part ≡ false) × (is_far (at b).part ≡ false) × Has p Hbo (at a).block (at b).block) → Near a b
+        seen_one : ((is_far (at a).part ≡ true) × (is_far (at b).part ≡ true)) ⊎ ((is_far (at a).part ≡ false) × (is_far (at b).part ≡ false) × AreRelated p Hbo (at a).block (at b).block) → Near a b
         seen_one (inl far) = inl far
         seen_one (inr before) = inr (before.0, before.1, inr before.2)
 

@@ -9,13 +9,13 @@ use Rattle.ql_counter.specs.declared.slot.Part.TheVariants.{Opening, Aide, Own, 
 use Rattle.ql_counter.specs.declared.slot.Slot.{Slot}
 use Rattle.ql_counter.specs.declared.slot.Extra.{Extra}
 use Rattle.ql_counter.specs.Patterns.{Pattern}
-use Rattle.ql_counter.specs.Lawful.{Has, IsLawful}
+use Rattle.ql_counter.specs.Lawful.{AreRelated, IsLawful}
 use Rattle.ql_counter.specs.Built.{op_in, object_in, built}
 use Rattle.ql_counter.proofs.Building.{slot_at, effect-is, effect-there}
 use Rattle.ql_counter.proofs.Arranged.{IsArranged}
 use Rattle.ql_counter.proofs.Closures.{is_far, objects-split, OnOne}
 
-module _ (types : List ℕ) (p : Pattern) (law : IsLawful p) (extra : Extra) (slots : List Slot) (arranged : IsArranged p extra slots) (known : (i : ℕ) → i < p.count → p.op i < length types) (alike : (i j : ℕ) → Has p SameObj i j → slice_index types (p.op i) ≡ slice_index types (p.op j)) where
+module _ (types : List ℕ) (p : Pattern) (law : IsLawful p) (extra : Extra) (slots : List Slot) (arranged : IsArranged p extra slots) (known : (i : ℕ) → i < p.count → p.op i < length types) (alike : (i j : ℕ) → AreRelated p SameObj i j → slice_index types (p.op i) ≡ slice_index types (p.op j)) where
   far-op : (s : Part) (b : ℕ) → is_far s ≡ true → op_in p s b ≡ p.op 0
   far-op Opening b h = refl
   far-op Closing b h = refl

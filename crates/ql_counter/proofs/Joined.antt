@@ -13,7 +13,7 @@ use Rattle.ql_counter.specs.Patterns.{least}
 use Rattle.ql_counter.specs.Blocks.{no_parts, slots_of}
 use Rattle.ql_counter.specs.Built.{built, constant_place}
 use Rattle.ql_counter.specs.declared.counter.At.TheVariants.{Effect as AtEffect, Run}
-use Rattle.ql_counter.specs.Assigned.{alone, begun, constant_places, current_by, extra_of, op_current, op_execution, op_places, pattern_of, run_by, txn_current, txn_execution, txn_pattern, txn_places}
+use Rattle.ql_counter.specs.Assigned.{alone, begun_member, constant_places, current_by, extra_of, op_current, op_execution, assigned_op_places, pattern_of, run_by, txn_current, txn_execution, txn_pattern, txn_places}
 use Rattle.ql_counter.specs.Coded.{IsLawfulOp, IsLawfulTxn}
 use Rattle.ql_counter.specs.Countermodels.{numbers}
 
@@ -30,7 +30,7 @@ module _ (a : List Bool) (types : List ℕ) (f : Resolved) where
   OpMade n m =
       (slots : List Slot) → slots ≡ slots_of (pattern_of a (size (suc n) m) alone) (extra_of f.body) → (x : List Effect) → x ≡ built (pattern_of a (size (suc n) m) alone) slots
       → (cur : ℕ) → cur ≡ constant_place (pattern_of a (size (suc n) m) alone) slots n → (places : List EffId) → numbers places ≡ constant_places (pattern_of a (size (suc n) m) alone) slots n
-      → (x ≡ op_execution a types f) × (AtEffect (record { 0 = cur }) ≡ AtEffect (record { 0 = op_current a types f })) × (numbers places ≡ op_places a types f)
+      → (x ≡ op_execution a types f) × (AtEffect (record { 0 = cur }) ≡ AtEffect (record { 0 = op_current a types f })) × (numbers places ≡ assigned_op_places a types f)
 
   op-exact : OpMade (length f.vars) (length types)
   op-exact slots h x e cur g places d =
@@ -46,7 +46,7 @@ module _ (a : List Bool) (types : List ℕ) (f : Resolved) where
   module _ (name : DeclId) where
     abbrev TxnMade : ℕ → ℕ → Type 0
     TxnMade n m =
-        (slots : List Slot) → slots ≡ slots_of (pattern_of a (size n m) alone) no_parts → (x : List Effect) → x ≡ built (pattern_of a (size n m) (begun a (size n m) name.0)) slots
+        (slots : List Slot) → slots ≡ slots_of (pattern_of a (size n m) alone) no_parts → (x : List Effect) → x ≡ built (pattern_of a (size n m) (begun_member a (size n m) name.0)) slots
         → (run : ℕ) → run ≡ run_by a (size n m) (least n (current_by a (size n m))) → (places : List EffId) → numbers places ≡ constant_places (pattern_of a (size n m) alone) slots n
         → (x ≡ txn_execution a types name.0 f) × (Run (record { 0 = run }) ≡ Run (record { 0 = txn_current a types f })) × (numbers places ≡ txn_places a types name.0 f)
 
@@ -54,7 +54,7 @@ module _ (a : List Bool) (types : List ℕ) (f : Resolved) where
     txn-exact slots h x e run g places d =
         let s : Size = size (length f.vars) (length types) in
         let p = txn_pattern a types name.0 f in
-        let whole : slots ≡ slots_of p no_parts = h ∙ slots-same a s alone (begun a s name.0) no_parts in (
+        let whole : slots ≡ slots_of p no_parts = h ∙ slots-same a s alone (begun_member a s name.0) no_parts in (
           e ∙ ap (built p) whole,
           ap (λ (k : ℕ). Run (record { 0 = k })) g,
           d ∙ ap (λ ys. constant_places p ys (length f.vars)) whole,
@@ -74,7 +74,7 @@ op-lawful a f n m slots list e is same law =
     (subst (λ k. IsExecution (built (pattern_of a (size k m) alone) (slots_of (pattern_of a (size k m) alone) (extra_of f.body)))) last law)
 
 pub txn-lawful : (a : List Bool) (f : Resolved) (name : DeclId) (n m : ℕ) (slots list : List Slot) → n ≡ length f.vars → slots ≡ slots_of (pattern_of a (size n m) alone) no_parts → list ≡ slots
-    → IsLawfulTxn a m name.0 f → IsExecution (built (pattern_of a (size n m) (begun a (size n m) name.0)) list)
+    → IsLawfulTxn a m name.0 f → IsExecution (built (pattern_of a (size n m) (begun_member a (size n m) name.0)) list)
 txn-lawful a f name n m slots list e is same law =
-    subst (λ ys. IsExecution (built (pattern_of a (size n m) (begun a (size n m) name.0)) ys)) (sym (same ∙ is ∙ slots-same a (size n m) alone (begun a (size n m) name.0) no_parts))
-    (subst (λ k. IsExecution (built (pattern_of a (size k m) (begun a (size k m) name.0)) (slots_of (pattern_of a (size k m) (begun a (size k m) name.0)) no_parts))) (sym e) law)
+    subst (λ ys. IsExecution (built (pattern_of a (size n m) (begun_member a (size n m) name.0)) ys)) (sym (same ∙ is ∙ slots-same a (size n m) alone (begun_member a (size n m) name.0) no_parts))
+    (subst (λ k. IsExecution (built (pattern_of a (size k m) (begun_member a (size k m) name.0)) (slots_of (pattern_of a (size k m) (begun_member a (size k m) name.0)) no_parts))) (sym e) law)

@@ -11,7 +11,7 @@ use Rattle.ql_base.specs.Ranges.{upto}
 use Rattle.ql_exec.specs.declared.effect.Effect.{Effect}
 use Rattle.ql_exec.specs.declared.effect.Draft.{Draft}
 use Rattle.ql_exec.specs.declared.fault.ExecFault.{ExecFault}
-use Rattle.ql_exec.specs.Execution.{IsExecution, effect_of, fault_of, made_after}
+use Rattle.ql_exec.specs.Execution.{IsExecution, effect_of, draft_fault, made_after}
 use Rattle.ql_exec.proofs.Finding.{effect_at-last}
 use Rattle.ql_exec.proofs.Law.{IsExecution-front, fault_of-None}
 use Rattle.ql_exec.proofs.Making.{made_step}
@@ -106,7 +106,7 @@ seen-more test slots d k wanted ids new l e h g =
 -- ---- drafts that are taken
 pub made-stored : (x : List Effect) (drafts : List Draft) (y : List Effect) → made_after x drafts ≡ Ok y → y ≡ stored_after x drafts
 made-stored x [] y h = let same : x ≡ y = cc in sym same ∙ sym (stored-end x)
-made-stored x (d ∷ drafts) y h = made-stored (x ++ effect_of x d ∷ []) drafts y (step (fault_of x d) h) ∙ sym (stored-step x d drafts)
+made-stored x (d ∷ drafts) y h = made-stored (x ++ effect_of x d ∷ []) drafts y (step (draft_fault x d) h) ∙ sym (stored-step x d drafts)
   where
     step : (fault : Option ExecFault) → option_map_or (λ f. Err f) fault (made_after (x ++ effect_of x d ∷ []) drafts) ≡ Ok y → made_after (x ++ effect_of x d ∷ []) drafts ≡ Ok y
     step None h = h

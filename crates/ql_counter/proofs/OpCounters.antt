@@ -6,7 +6,7 @@ use Rattle.ql_base.specs.Ids.{op}
 use Rattle.ql_atoms.specs.declared.atoms.Atom.TheVariants.{Pair, Is}
 use Rattle.ql_atoms.specs.declared.atoms.PairKind.{PairKind}
 use Rattle.ql_atoms.specs.declared.atoms.PairKind.TheVariants as kind
-use Rattle.ql_atoms.specs.Atoms.{Size, count_of}
+use Rattle.ql_atoms.specs.Atoms.{Size, atom_count}
 use Rattle.ql_cnf.specs.Circuits.{circuit_true, denying}
 use Rattle.ql_cnf.specs.Satisfaction.{Satisfies}
 use Rattle.ql_cnf.proofs.CircuitLaws.{all_true-clauses_of}
@@ -35,7 +35,7 @@ use Rattle.ql_counter.proofs.Arranged.{IsArranged, built-lawful}
 use Rattle.ql_counter.proofs.Agreement.{named-agrees}
 use Rattle.ql_counter.proofs.OpLevels.{op-holds}
 use Rattle.ql_counter.proofs.Arranging.{slots-arranged, slots-short}
-use Rattle.ql_counter.specs.Assigned.{related_by, pattern_of, extra_of, alone, op_pattern, op_slots, op_execution, op_current, op_places}
+use Rattle.ql_counter.specs.Assigned.{related_by, pattern_of, extra_of, alone, op_pattern, op_slots, op_execution, op_current, assigned_op_places}
 use Rattle.ql_counter.proofs.Firing.{AllHold, both-hold, denied, fires, only, value, yes-value}
 use Rattle.ql_counter.proofs.Reading.{Axioms, axioms-from, level-promised, one-type, op-is, op-only, pattern-lawful}
 use Rattle.ql_counter.proofs.Circuits.{Shown, body-true, extra-shows}
@@ -97,14 +97,14 @@ module _ (types : List ℕ) (o : ℕ) (level : Level) (f : Resolved) (a : List B
       let c = axioms types s in
       let d = instances s (level_rule level) in
       let k = implication s [] (Is (op o) (current_effect s) ∷ []) ∷ [] in
-      let all = sym (all_true-clauses_of a (op_ground types o level f ++ denying (count_of s) (body_circuit s f.body))) ∙ sat.1 in
-      let h = both-hold a s (op_ground types o level f) (denying (count_of s) (body_circuit s f.body)) all in
+      let all = sym (all_true-clauses_of a (op_ground types o level f ++ denying (atom_count s) (body_circuit s f.body))) ∙ sat.1 in
+      let h = both-hold a s (op_ground types o level f) (denying (atom_count s) (body_circuit s f.body)) all in
       let h1 = both-hold a s (e ++ b ++ c ++ d ++ k) (all_variable_operations s 0 f.vars) h.0 in
       let h2 = both-hold a s (e ++ b ++ c ++ d) k h1.0 in
       let h3 = both-hold a s (e ++ b ++ c) d h2.0 in
       let h4 = both-hold a s (e ++ b) c h3.0 in
       let h5 = both-hold a s e b h4.0 in
-      record { common = axioms-from a s types h5.0 h5.1 h4.1; promise = h3.1; own = h2.1; variables = h1.1; denial = denied a s (count_of s) (body_circuit s f.body) h.1 }
+      record { common = axioms-from a s types h5.0 h5.1 h4.1; promise = h3.1; own = h2.1; variables = h1.1; denial = denied a s (atom_count s) (body_circuit s f.body) h.1 }
 
   law : IsLawful p
   law = pattern-lawful a s types alone groups.common
@@ -136,14 +136,14 @@ module _ (types : List ℕ) (o : ℕ) (level : Level) (f : Resolved) (a : List B
     closed = λ h. absurd (false≢true h);
   }
 
-  places-at : (i : ℕ) → i < n → slice_index (op_places a types f) i ≡ place i
+  places-at : (i : ℕ) → i < n → slice_index (assigned_op_places a types f) i ≡ place i
   places-at i l = ones-at n place i l
 
-  terms : (t : Term) → IsTermOf n true t → (constant_of s t < s.constants) × (place (constant_of s t) ≡ place_of (op_places a types f) (op_current a types f) t)
+  terms : (t : Term) → IsTermOf n true t → (constant_of s t < s.constants) × (place (constant_of s t) ≡ place_of (assigned_op_places a types f) (op_current a types f) t)
   terms Cur h = (omega arith, ap place current)
   terms (Var v) h = (omega (arith, h), sym (places-at v h))
 
-  pub op-counter : IsCounter types o level f x (op_current a types f) (op_places a types f)
+  pub op-counter : IsCounter types o level f x (op_current a types f) (assigned_op_places a types f)
   op-counter =
       let e = effect-of a s types alone groups.common extra slots arranged n last in
       let few = contract.few in
@@ -155,6 +155,6 @@ module _ (types : List ℕ) (o : ℕ) (level : Level) (f : Resolved) (a : List B
         there = e.1;
         of_op = e.2 ∙ of-op;
         holds = op-holds p law extra slots arranged n last level (level-promised a s types alone groups.common level groups.promise n current last);
-        chosen = chosen-all a s types alone groups.common extra slots arranged f.vars 0 contract.choices groups.variables (omega arith) (op_places a types f) (ones-length n place) (λ i l. places-at i l ∙ ap place (omega arith));
-        broken = sym (body-true a s x none_inside place extra false shown n true (op_places a types f) (op_current a types f) terms f.body (extra-shows f.body contract.no_txn) contract.body) ∙ groups.denial;
+        chosen = chosen-all a s types alone groups.common extra slots arranged f.vars 0 contract.choices groups.variables (omega arith) (assigned_op_places a types f) (ones-length n place) (λ i l. places-at i l ∙ ap place (omega arith));
+        broken = sym (body-true a s x none_inside place extra false shown n true (assigned_op_places a types f) (op_current a types f) terms f.body (extra-shows f.body contract.no_txn) contract.body) ∙ groups.denial;
       }

@@ -2,7 +2,7 @@
 use Rattle.std.proofs.Common.{◌≡◌, ℕ, zero, suc, ◌+◌, ◌*◌, ◌<◌, ◌≤◌, ◌⊎◌, Bool, true, false, cond, nat_eq, get_or, List, [], ◌∷◌, ◌++◌, length, refl, sym, ap, ◌∙◌, inl, inr, arith, length-append}
 use Rattle.std.proofs.lemmas.Bool.{cases_Bool, cases_eq, eqb-true, ne_eqb}
 use Rattle.ql_base.specs.Ranges.{upto}
-use Rattle.ql_counter.specs.Blocks.{count_below}
+use Rattle.ql_counter.specs.Blocks.{number_below}
 
 module _ {X : Type 0} where
   abbrev pub Each : (X → Type 0) → List X → Type 0
@@ -78,14 +78,14 @@ module _ {X : Type 0} where
   in-place s d (t ∷ xs) (inr later) = let found = in-place s d xs later in let l = found.1 in (suc found.0, omega (arith, l), found.2)
 
 -- ---- counts
-pub count-bound : (n : ℕ) (f : ℕ → Bool) → count_below n f ≤ n
+pub count-bound : (n : ℕ) (f : ℕ → Bool) → number_below n f ≤ n
 count-bound zero f = omega arith
 count-bound (suc n) f = elim (cases_Bool (f n)) [
   | inl pass ↦ let rest = count-bound n f in rw pass (omega (arith, rest))
   | inr fail ↦ let rest = count-bound n f in rw fail (omega (arith, rest))
 ]
 
-count-wider : (n : ℕ) (f g : ℕ → Bool) → ((k : ℕ) → f k ≡ true → g k ≡ true) → count_below n f ≤ count_below n g
+count-wider : (n : ℕ) (f g : ℕ → Bool) → ((k : ℕ) → f k ≡ true → g k ≡ true) → number_below n f ≤ number_below n g
 count-wider zero f g h = omega arith
 count-wider (suc n) f g h = let rest = count-wider n f g h in elim (cases_Bool (f n)) [
   | inl pass ↦ rw (pass, h n pass) (omega (arith, rest))
@@ -96,7 +96,7 @@ count-wider (suc n) f g h = let rest = count-wider n f g h in elim (cases_Bool (
 ]
 
 -- what passes one test and another number more
-pub count-less : (n : ℕ) (f g : ℕ → Bool) → ((k : ℕ) → f k ≡ true → g k ≡ true) → (k : ℕ) → k < n → f k ≡ false → g k ≡ true → count_below n f < count_below n g
+pub count-less : (n : ℕ) (f g : ℕ → Bool) → ((k : ℕ) → f k ≡ true → g k ≡ true) → (k : ℕ) → k < n → f k ≡ false → g k ≡ true → number_below n f < number_below n g
 count-less zero f g h k l fail pass = absurd (omega (arith, l))
 count-less (suc n) f g h k l fail pass = elim (cases_eq k n) [
   | inl same ↦

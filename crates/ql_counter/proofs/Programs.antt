@@ -21,7 +21,7 @@ use Rattle.ql_ground.proofs.Typing.{count_types}
 use Rattle.ql_implication.specs.Countermodels.{IsCounter, IsTxnCounter}
 use Rattle.ql_counter.specs.Coded.{IsLawfulOp, IsLawfulTxn}
 use Rattle.ql_counter.specs.declared.counter.Counter.{Counter}
-use Rattle.ql_counter.specs.Assigned.{op_current, op_execution, op_places, txn_current, txn_execution, txn_places}
+use Rattle.ql_counter.specs.Assigned.{op_current, op_execution, assigned_op_places, txn_current, txn_execution, txn_places}
 use Rattle.ql_counter.specs.Countermodels.{HasCounter, IsBuiltOfOp, IsBuiltOfTxn, IsCounterOf, IsSatisfiedBy, numbers}
 use Rattle.ql_counter.proofs.OpCounters.{op-counter}
 use Rattle.ql_counter.proofs.TxnCounters.{txn-counter}
@@ -48,7 +48,7 @@ module _ (p : Program) where
       subst (λ k. Satisfies a (txn_problem types level k)) same (subst (Satisfies a) is sat)
 
   op_counter : (o : OpId) (level : Level) (f : Resolved) (a : List Bool) → slice_get (op_contracts p.types) o.0 ≡ Some f → IsOpContract (length (all_ops p.types)) f → o.0 < length (all_ops p.types) → IsSatisfiedBy p (OpAt o level) a
-      → IsCounter types o.0 level f (op_execution a types f) (op_current a types f) (op_places a types f)
+      → IsCounter types o.0 level f (op_execution a types f) (op_current a types f) (assigned_op_places a types f)
   op_counter o level f a e contract known sat =
       op-counter types o.0 level f a (op_types f contract) (subst (λ n. o.0 < n) (sym (count_types p.types types refl)) known) (op_satisfied o level f a e sat)
 
@@ -97,6 +97,6 @@ module _ (p : Program) where
   -- in a typed program
   pub goal_fails : program_faults p ≡ [] → (g : Goal) → IsGoalOf p g → (a : List Bool) → IsSatisfiedBy p g a → HasCounter p g
   goal_fails typed (OpAt o level) known a (c, (f, e, is), sat) =
-      (f, e, op_execution a types f, op_current a types f, op_places a types f, op_counter o level f a e (op_well_formed p typed o.0 f e) known (c, (f, e, is), sat))
+      (f, e, op_execution a types f, op_current a types f, assigned_op_places a types f, op_counter o level f a e (op_well_formed p typed o.0 f e) known (c, (f, e, is), sat))
   goal_fails typed (TxnAt d level) known a (c, (f, e, is), sat) =
       (f, e, txn_execution a types d.0 f, txn_current a types f, txn_places a types d.0 f, txn_counter d level f a e (txn_well_formed p typed d.0 f e) (c, (f, e, is), sat))

@@ -21,7 +21,7 @@ use Rattle.ql_ground.specs.Rules.{equality_rules, alike_op, alike_left, alike_ri
 use Rattle.ql_ground.specs.Ground.{chosen, implication, instances, all_instances, alike_operations, some_operation, one_operation, one_type, axioms, variable_operations}
 use Rattle.ql_ground.proofs.Instances.{SomeTrue}
 use Rattle.ql_counter.specs.Patterns.{Pattern}
-use Rattle.ql_counter.specs.Lawful.{Has, IsLawful, Promises}
+use Rattle.ql_counter.specs.Lawful.{AreRelated, IsLawful, LevelGuarantee}
 use Rattle.ql_counter.proofs.EqualConstants.{least-found}
 use Rattle.ql_counter.specs.Assigned.{pattern_of}
 use Rattle.ql_counter.proofs.Firing.{AllHold, both-hold, fires, only, pick, upto-each, use_rule, value}
@@ -55,56 +55,56 @@ module _ (a : List Bool) (s : Size) (types : List ℕ) where
     p = pattern_of a s member
 
     -- a relation of the pattern is an atom's value, within the size
-    pub has-from : (r : PairKind) (i j : ℕ) → i < s.constants → j < s.constants → value a s (Pair r i j) ≡ true → Has p r i j
+    pub has-from : (r : PairKind) (i j : ℕ) → i < s.constants → j < s.constants → value a s (Pair r i j) ≡ true → AreRelated p r i j
     has-from r i j l m h = and_from (nat_lt i s.constants && nat_lt j s.constants) _ (and_from (nat_lt i s.constants) _ (lt-ltb i s.constants l) (lt-ltb j s.constants m)) h
 
-    pub has-to : (r : PairKind) (i j : ℕ) → Has p r i j → (i < s.constants) × (j < s.constants) × (value a s (Pair r i j) ≡ true)
+    pub has-to : (r : PairKind) (i j : ℕ) → AreRelated p r i j → (i < s.constants) × (j < s.constants) × (value a s (Pair r i j) ≡ true)
     has-to r i j h =
         let both = and_parts (nat_lt i s.constants && nat_lt j s.constants) (value a s (Pair r i j)) h in
         let bounds = and_parts (nat_lt i s.constants) (nat_lt j s.constants) both.0 in
         (ltb-true i s.constants bounds.0, ltb-true j s.constants bounds.1, both.1)
 
-    pub by-reflexive : (r : PairKind) → AllHold a s (instances s (reflexive r)) → (i : ℕ) → i < s.constants → Has p r i i
+    pub by-reflexive : (r : PairKind) → AllHold a s (instances s (reflexive r)) → (i : ℕ) → i < s.constants → AreRelated p r i i
     unfolding chosen
     by-reflexive r h i l = elim (use_rule a s (reflexive r) h (i ∷ []) refl (l, tt) tt) [ inl y ↦ has-from r i i l l y | inr n ↦ absurd n ]
 
-    pub by-symmetric : (r : PairKind) → AllHold a s (instances s (symmetric r)) → (i j : ℕ) → Has p r i j → Has p r j i
+    pub by-symmetric : (r : PairKind) → AllHold a s (instances s (symmetric r)) → (i j : ℕ) → AreRelated p r i j → AreRelated p r j i
     unfolding chosen
     by-symmetric r h i j v = let t = has-to r i j v in
         elim (use_rule a s (symmetric r) h (i ∷ j ∷ []) refl (t.0, (t.1, tt)) (t.2, tt)) [ inl y ↦ has-from r j i t.1 t.0 y | inr n ↦ absurd n ]
 
-    pub by-transitive : (r : PairKind) → AllHold a s (instances s (transitive r)) → (i j k : ℕ) → Has p r i j → Has p r j k → Has p r i k
+    pub by-transitive : (r : PairKind) → AllHold a s (instances s (transitive r)) → (i j k : ℕ) → AreRelated p r i j → AreRelated p r j k → AreRelated p r i k
     unfolding chosen
     by-transitive r h i j k v w = let t = has-to r i j v in let u = has-to r j k w in
         elim (use_rule a s (transitive r) h (i ∷ j ∷ k ∷ []) refl (t.0, (t.1, (u.1, tt))) (t.2, (u.2, tt))) [ inl y ↦ has-from r i k t.0 u.1 y | inr n ↦ absurd n ]
 
-    by-within : (r q : PairKind) → AllHold a s (instances s (within r q)) → (i j : ℕ) → Has p r i j → Has p q i j
+    by-within : (r q : PairKind) → AllHold a s (instances s (within r q)) → (i j : ℕ) → AreRelated p r i j → AreRelated p q i j
     unfolding chosen
     by-within r q h i j v = let t = has-to r i j v in
         elim (use_rule a s (within r q) h (i ∷ j ∷ []) refl (t.0, (t.1, tt)) (t.2, tt)) [ inl y ↦ has-from q i j t.0 t.1 y | inr n ↦ absurd n ]
 
-    by-irreflexive : (r : PairKind) → AllHold a s (instances s (irreflexive r)) → (i : ℕ) → Has p r i i → ⊥
+    by-irreflexive : (r : PairKind) → AllHold a s (instances s (irreflexive r)) → (i : ℕ) → AreRelated p r i i → ⊥
     unfolding chosen
     by-irreflexive r h i v = let t = has-to r i i v in use_rule a s (irreflexive r) h (i ∷ []) refl (t.0, tt) (t.2, tt)
 
-    by-alike_left : (r : PairKind) → AllHold a s (instances s (alike_left r)) → (i j k : ℕ) → Has p Eq i j → Has p r i k → Has p r j k
+    by-alike_left : (r : PairKind) → AllHold a s (instances s (alike_left r)) → (i j k : ℕ) → AreRelated p Eq i j → AreRelated p r i k → AreRelated p r j k
     unfolding chosen
     by-alike_left r h i j k v w = let t = has-to Eq i j v in let u = has-to r i k w in
         elim (use_rule a s (alike_left r) h (i ∷ j ∷ k ∷ []) refl (t.0, (t.1, (u.1, tt))) (t.2, (u.2, tt))) [ inl y ↦ has-from r j k t.1 u.1 y | inr n ↦ absurd n ]
 
-    by-alike_right : (r : PairKind) → AllHold a s (instances s (alike_right r)) → (i j k : ℕ) → Has p Eq i j → Has p r k i → Has p r k j
+    by-alike_right : (r : PairKind) → AllHold a s (instances s (alike_right r)) → (i j k : ℕ) → AreRelated p Eq i j → AreRelated p r k i → AreRelated p r k j
     unfolding chosen
     by-alike_right r h i j k v w = let t = has-to Eq i j v in let u = has-to r k i w in
         elim (use_rule a s (alike_right r) h (i ∷ j ∷ k ∷ []) refl (t.0, (t.1, (u.0, tt))) (t.2, (u.2, tt))) [ inl y ↦ has-from r k j u.0 t.1 y | inr n ↦ absurd n ]
 
     module _ (g : Axioms) where
-      eq-sym : (i j : ℕ) → Has p Eq i j → Has p Eq j i
+      eq-sym : (i j : ℕ) → AreRelated p Eq i j → AreRelated p Eq j i
       eq-sym = by-symmetric Eq (pick a s equality_rules 1 (symmetric Eq) refl g.equality)
 
-      eq-trans : (i j k : ℕ) → Has p Eq i j → Has p Eq j k → Has p Eq i k
+      eq-trans : (i j k : ℕ) → AreRelated p Eq i j → AreRelated p Eq j k → AreRelated p Eq i k
       eq-trans = by-transitive Eq (pick a s equality_rules 2 (transitive Eq) refl g.equality)
 
-      left : (r : PairKind) (i j k : ℕ) → Has p Eq i j → Has p r i k → Has p r j k
+      left : (r : PairKind) (i j k : ℕ) → AreRelated p Eq i j → AreRelated p r i k → AreRelated p r j k
       left Eq = λ i j k v w. eq-trans j i k (eq-sym i j v) w
       left So = by-alike_left So (pick a s equality_rules 3 (alike_left So) refl g.equality)
       left SameObj = by-alike_left SameObj (pick a s equality_rules 5 (alike_left SameObj) refl g.equality)
@@ -113,7 +113,7 @@ module _ (a : List Bool) (s : Size) (types : List ℕ) where
       left Hb = by-alike_left Hb (pick a s equality_rules 11 (alike_left Hb) refl g.equality)
       left SameTxn = by-alike_left SameTxn (pick a s equality_rules 13 (alike_left SameTxn) refl g.equality)
 
-      right : (r : PairKind) (i j k : ℕ) → Has p Eq i j → Has p r k i → Has p r k j
+      right : (r : PairKind) (i j k : ℕ) → AreRelated p Eq i j → AreRelated p r k i → AreRelated p r k j
       right Eq = λ i j k v w. eq-trans k i j w v
       right So = by-alike_right So (pick a s equality_rules 4 (alike_right So) refl g.equality)
       right SameObj = by-alike_right SameObj (pick a s equality_rules 6 (alike_right SameObj) refl g.equality)
@@ -164,7 +164,7 @@ module _ (a : List Bool) (s : Size) (types : List ℕ) where
             | inr (inr more) ↦ absurd (two-ops i o (p.op i) l m own.0 more h own.1)
           ]
 
-      alike-op : (i j : ℕ) → Has p Eq i j → p.op i ≡ p.op j
+      alike-op : (i j : ℕ) → AreRelated p Eq i j → p.op i ≡ p.op j
       unfolding chosen
       alike-op i j v =
           let t = has-to Eq i j v in
@@ -175,7 +175,7 @@ module _ (a : List Bool) (s : Size) (types : List ℕ) where
           sym (op-only j o t.1 own.0 also)
 
       -- operations on one object are of one type
-      pub one-type : (i j : ℕ) → Has p SameObj i j → slice_index types (p.op i) ≡ slice_index types (p.op j)
+      pub one-type : (i j : ℕ) → AreRelated p SameObj i j → slice_index types (p.op i) ≡ slice_index types (p.op j)
       one-type i j v =
           let t = has-to SameObj i j v in
           let o = op-is i t.0 in
@@ -193,7 +193,7 @@ module _ (a : List Bool) (s : Size) (types : List ℕ) where
           ]
 
       -- ---- session order
-      from-one : (i j k : ℕ) → Has p So i j → Has p So i k → Has p So j k ⊎ (Has p So k j ⊎ Has p Eq j k)
+      from-one : (i j k : ℕ) → AreRelated p So i j → AreRelated p So i k → AreRelated p So j k ⊎ (AreRelated p So k j ⊎ AreRelated p Eq j k)
       unfolding chosen
       from-one i j k v w = let t = has-to So i j v in let u = has-to So i k w in
           elim (use_rule a s from_one_rule (pick a s session_rules 1 from_one_rule refl g.session) (i ∷ j ∷ k ∷ []) refl (t.0, (t.1, (u.1, tt))) (t.2, (u.2, tt))) [
@@ -203,7 +203,7 @@ module _ (a : List Bool) (s : Size) (types : List ℕ) where
             | inr (inr (inr n)) ↦ absurd n
           ]
 
-      to-one : (i j k : ℕ) → Has p So i k → Has p So j k → Has p So i j ⊎ (Has p So j i ⊎ Has p Eq i j)
+      to-one : (i j k : ℕ) → AreRelated p So i k → AreRelated p So j k → AreRelated p So i j ⊎ (AreRelated p So j i ⊎ AreRelated p Eq i j)
       unfolding chosen
       to-one i j k v w = let t = has-to So i k v in let u = has-to So j k w in
           elim (use_rule a s to_one_rule (pick a s session_rules 2 to_one_rule refl g.session) (i ∷ j ∷ k ∷ []) refl (t.0, (u.0, (t.1, tt))) (t.2, (u.2, tt))) [
@@ -213,7 +213,7 @@ module _ (a : List Bool) (s : Size) (types : List ℕ) where
             | inr (inr (inr n)) ↦ absurd n
           ]
 
-      of-session : (i j : ℕ) → Has p So i j → Has p SameObj i j → Has p Hbo i j
+      of-session : (i j : ℕ) → AreRelated p So i j → AreRelated p SameObj i j → AreRelated p Hbo i j
       unfolding chosen
       of-session i j v w = let t = has-to So i j v in let u = has-to SameObj i j w in
           elim (use_rule a s of_session_rule (pick a s object_order_rules 1 of_session_rule refl g.object_order) (i ∷ j ∷ []) refl (t.0, (t.1, tt)) (t.2, (u.2, tt))) [ inl y ↦ has-from Hbo i j t.0 t.1 y | inr n ↦ absurd n ]
@@ -246,7 +246,7 @@ module _ (a : List Bool) (s : Size) (types : List ℕ) where
       }
 
       -- ---- what the level promises the current effect, the last constant
-      pub level-promised : (level : Level) → AllHold a s (instances s (level_rule level)) → (c : ℕ) → current_effect s ≡ c → c < s.constants → Promises p level c
+      pub level-promised : (level : Level) → AllHold a s (instances s (level_rule level)) → (c : ℕ) → current_effect s ≡ c → c < s.constants → LevelGuarantee p level c
       unfolding chosen
       level-promised Eventual h c e l = λ i j v w.
           let t = has-to Hbo i j v in

@@ -5,7 +5,7 @@ use Rattle.std.specs.Prelude.{nat_lt}
 use Rattle.ql_base.specs.declared.ids.DeclId.{DeclId}
 use Rattle.ql_atoms.specs.declared.atoms.Atom.TheVariants.{Current}
 use Rattle.ql_atoms.specs.declared.atoms.PairKind.TheVariants.{Eq, So, SameObj, Vis, SameTxn}
-use Rattle.ql_atoms.specs.Atoms.{Size, count_of}
+use Rattle.ql_atoms.specs.Atoms.{Size, atom_count}
 use Rattle.ql_cnf.specs.Circuits.{circuit_true, denying}
 use Rattle.ql_cnf.specs.Satisfaction.{Satisfies}
 use Rattle.ql_cnf.proofs.CircuitLaws.{all_true-clauses_of}
@@ -26,7 +26,7 @@ use Rattle.ql_ground.specs.Ground.{chosen, instances, all_instances, alike_opera
 use Rattle.ql_implication.specs.Countermodels.{IsTxnCounter}
 use Rattle.ql_counter.specs.declared.slot.Slot.{Slot}
 use Rattle.ql_counter.specs.Patterns.{Pattern}
-use Rattle.ql_counter.specs.Lawful.{Has, IsLawful, IsTxnLawful, TxnPromises}
+use Rattle.ql_counter.specs.Lawful.{AreRelated, IsLawful, IsTxnLawful, TxnPromises}
 use Rattle.ql_counter.specs.Blocks.{no_parts}
 use Rattle.ql_counter.specs.Built.{constant_place}
 use Rattle.ql_counter.proofs.Building.{built-length, effect-is}
@@ -34,7 +34,7 @@ use Rattle.ql_counter.proofs.Arranged.{IsArranged, built-lawful}
 use Rattle.ql_counter.proofs.Agreement.{named-agrees}
 use Rattle.ql_counter.proofs.Arranging.{slots-arranged, slots-short}
 use Rattle.ql_counter.proofs.TxnLevels.{inside-agrees, inside-closed, txn-agrees, txn-grouped, txn-holds}
-use Rattle.ql_counter.specs.Assigned.{begun, current_by, txn_current, txn_execution, txn_pattern, txn_places, txn_slots}
+use Rattle.ql_counter.specs.Assigned.{begun_member, current_by, txn_current, txn_execution, txn_pattern, txn_places, txn_slots}
 use Rattle.ql_counter.proofs.Firing.{AllHold, both-hold, denied, pick, use_rule, value, yes-value}
 use Rattle.ql_counter.proofs.Reading.{Axioms, axioms-from, by-reflexive, by-symmetric, by-transitive, has-from, has-to, one-type, op-is, pattern-lawful}
 use Rattle.ql_counter.proofs.Circuits.{Shown, body-true, plain-shows}
@@ -50,7 +50,7 @@ module _ (types : List ℕ) (d : ℕ) (level : TxnLevel) (f : Resolved) (a : Lis
   n = length f.vars
 
   abbrev member : ℕ → Member
-  member = begun a s d
+  member = begun_member a s d
 
   abbrev p : Pattern
   p = txn_pattern a types d f
@@ -86,15 +86,15 @@ module _ (types : List ℕ) (d : ℕ) (level : TxnLevel) (f : Resolved) (a : Lis
       let k = axioms types s in
       let t = all_instances s transaction_rules in
       let l = all_instances s (txn_level_rules level) in
-      let all = sym (all_true-clauses_of a (txn_ground types level f ++ denying (count_of s) (body_circuit s f.body))) ∙ sat.1 in
-      let h = both-hold a s (txn_ground types level f) (denying (count_of s) (body_circuit s f.body)) all in
+      let all = sym (all_true-clauses_of a (txn_ground types level f ++ denying (atom_count s) (body_circuit s f.body))) ∙ sat.1 in
+      let h = both-hold a s (txn_ground types level f) (denying (atom_count s) (body_circuit s f.body)) all in
       let h1 = both-hold a s (e ++ b ++ c ++ k ++ t ++ l) (all_variable_operations s 0 f.vars) h.0 in
       let h2 = both-hold a s (e ++ b ++ c ++ k ++ t) l h1.0 in
       let h3 = both-hold a s (e ++ b ++ c ++ k) t h2.0 in
       let h4 = both-hold a s (e ++ b ++ c) k h3.0 in
       let h5 = both-hold a s (e ++ b) c h4.0 in
       let h6 = both-hold a s e b h5.0 in
-      record { common = axioms-from a s types h6.0 h6.1 h4.1; alike = h5.1; txns = h3.1; promise = h2.1; variables = h1.1; denial = denied a s (count_of s) (body_circuit s f.body) h.1 }
+      record { common = axioms-from a s types h6.0 h6.1 h4.1; alike = h5.1; txns = h3.1; promise = h2.1; variables = h1.1; denial = denied a s (atom_count s) (body_circuit s f.body) h.1 }
 
   law : IsLawful p
   law = pattern-lawful a s types member groups.common
@@ -109,12 +109,12 @@ module _ (types : List ℕ) (d : ℕ) (level : TxnLevel) (f : Resolved) (a : Lis
   now-from : (i : ℕ) → i < n → value a s (Current i) ≡ true → current i ≡ true
   now-from i l h = and_from (nat_lt i n) _ (lt-ltb i n l) h
 
-  alike-now : (i j : ℕ) → Has p Eq i j → current i ≡ true → current j ≡ true
+  alike-now : (i j : ℕ) → AreRelated p Eq i j → current i ≡ true → current j ≡ true
   unfolding chosen
   alike-now i j v h = let t = has-to a s types member Eq i j v in
       elim (use_rule a s alike_current groups.alike (i ∷ j ∷ []) refl (t.0, (t.1, tt)) (t.2, ((now-to i h).1, tt))) [ inl y ↦ now-from j t.1 y | inr none ↦ absurd none ]
 
-  one-session : (i j : ℕ) → Has p SameTxn i j → Has p So i j ⊎ (Has p So j i ⊎ Has p Eq i j)
+  one-session : (i j : ℕ) → AreRelated p SameTxn i j → AreRelated p So i j ⊎ (AreRelated p So j i ⊎ AreRelated p Eq i j)
   unfolding chosen
   one-session i j v = let t = has-to a s types member SameTxn i j v in
       elim (use_rule a s one_session_rule (pick a s transaction_rules 3 one_session_rule refl groups.txns) (i ∷ j ∷ []) refl (t.0, (t.1, tt)) (t.2, tt)) [
@@ -124,7 +124,7 @@ module _ (types : List ℕ) (d : ℕ) (level : TxnLevel) (f : Resolved) (a : Lis
         | inr (inr (inr none)) ↦ absurd none
       ]
 
-  unbroken : (i j k : ℕ) → Has p SameTxn i k → Has p So i j → Has p So j k → Has p SameTxn i j
+  unbroken : (i j k : ℕ) → AreRelated p SameTxn i k → AreRelated p So i j → AreRelated p So j k → AreRelated p SameTxn i j
   unfolding chosen
   unbroken i j k v w z =
       let t = has-to a s types member SameTxn i k v in
@@ -132,12 +132,12 @@ module _ (types : List ℕ) (d : ℕ) (level : TxnLevel) (f : Resolved) (a : Lis
       let q = has-to a s types member So j k z in
       elim (use_rule a s contiguous_rule (pick a s transaction_rules 4 contiguous_rule refl groups.txns) (i ∷ j ∷ k ∷ []) refl (t.0, (u.1, (t.1, tt))) (t.2, (u.2, (q.2, tt)))) [ inl y ↦ has-from a s types member SameTxn i j t.0 u.1 y | inr none ↦ absurd none ]
 
-  in-one : (i j : ℕ) → current i ≡ true → current j ≡ true → Has p SameTxn i j
+  in-one : (i j : ℕ) → current i ≡ true → current j ≡ true → AreRelated p SameTxn i j
   unfolding chosen
   in-one i j h g = let t = now-to i h in let u = now-to j g in
       elim (use_rule a s in_one_rule (pick a s transaction_rules 5 in_one_rule refl groups.txns) (i ∷ j ∷ []) refl (t.0, (u.0, tt)) (t.1, (u.1, tt))) [ inl y ↦ has-from a s types member SameTxn i j t.0 u.0 y | inr none ↦ absurd none ]
 
-  all-of-one : (i j : ℕ) → current i ≡ true → Has p SameTxn i j → current j ≡ true
+  all-of-one : (i j : ℕ) → current i ≡ true → AreRelated p SameTxn i j → current j ≡ true
   unfolding chosen
   all-of-one i j h v = let t = now-to i h in let u = has-to a s types member SameTxn i j v in
       elim (use_rule a s whole_rule (pick a s transaction_rules 6 whole_rule refl groups.txns) (i ∷ j ∷ []) refl (t.0, (u.1, tt)) (t.1, (u.2, tt))) [ inl y ↦ now-from j u.1 y | inr none ↦ absurd none ]
@@ -161,7 +161,7 @@ module _ (types : List ℕ) (d : ℕ) (level : TxnLevel) (f : Resolved) (a : Lis
 
   -- ---- what the level promises
   abbrev Committed : Type 0
-  Committed = (i j k : ℕ) → current i ≡ true → Has p SameTxn j k → Has p SameObj j k → Has p Vis j i → (current j ≡ true) ⊎ Has p Vis k i
+  Committed = (i j k : ℕ) → current i ≡ true → AreRelated p SameTxn j k → AreRelated p SameObj j k → AreRelated p Vis j i → (current j ≡ true) ⊎ AreRelated p Vis k i
 
   committed : AllHold a s (instances s committed_rule) → Committed
   unfolding chosen
@@ -176,7 +176,7 @@ module _ (types : List ℕ) (d : ℕ) (level : TxnLevel) (f : Resolved) (a : Lis
         | inr (inr none) ↦ absurd none
       ]
 
-  monotonic : AllHold a s (instances s monotonic_rule) → (i j k l : ℕ) → current i ≡ true → current j ≡ true → Has p SameTxn k l → Has p So i j → Has p Vis k i → Has p SameObj l j → (current k ≡ true) ⊎ Has p Vis l j
+  monotonic : AllHold a s (instances s monotonic_rule) → (i j k l : ℕ) → current i ≡ true → current j ≡ true → AreRelated p SameTxn k l → AreRelated p So i j → AreRelated p Vis k i → AreRelated p SameObj l j → (current k ≡ true) ⊎ AreRelated p Vis l j
   unfolding chosen
   monotonic h i j k l c e v w z b =
       let t = now-to i c in
@@ -191,7 +191,7 @@ module _ (types : List ℕ) (d : ℕ) (level : TxnLevel) (f : Resolved) (a : Lis
         | inr (inr none) ↦ absurd none
       ]
 
-  repeatable : AllHold a s (instances s repeatable_rule) → (i j k l : ℕ) → current i ≡ true → current j ≡ true → Has p SameTxn k l → Has p Vis k i → Has p SameObj l j → (current k ≡ true) ⊎ Has p Vis l j
+  repeatable : AllHold a s (instances s repeatable_rule) → (i j k l : ℕ) → current i ≡ true → current j ≡ true → AreRelated p SameTxn k l → AreRelated p Vis k i → AreRelated p SameObj l j → (current k ≡ true) ⊎ AreRelated p Vis l j
   unfolding chosen
   repeatable h i j k l c e v z b =
       let t = now-to i c in

@@ -18,7 +18,7 @@ use Rattle.ql_counter.specs.declared.slot.Part.{Part}
 use Rattle.ql_counter.specs.declared.slot.Part.TheVariants.{Opening, Aide, Own, Closing}
 use Rattle.ql_counter.specs.declared.slot.Slot.{Slot}
 use Rattle.ql_counter.specs.Patterns.{Pattern, leader, least, object_of}
-use Rattle.ql_counter.specs.Lawful.{Has, IsGrouped, IsLawful, IsTxnLawful, run_of, txn_of, TxnPromises}
+use Rattle.ql_counter.specs.Lawful.{AreRelated, IsGrouped, IsLawful, IsTxnLawful, run_of, txn_of, TxnPromises}
 use Rattle.ql_counter.specs.Blocks.{has_part, no_parts, slot_of}
 use Rattle.ql_counter.specs.Built.{sees, object_in, built, constant_place}
 use Rattle.ql_counter.proofs.EqualConstants.{IsEquivalence, class-from, class-to, class-within, least-bound, least-found, least-passes, one_value}
@@ -75,7 +75,7 @@ module _ (p : Pattern) (law : IsLawful p) (current : ℕ → Bool) (name : DeclI
       (λ h. let e = eqb-true (suc (txn_of p i)) (suc (txn_of p j)) (sym names ∙ h) in class-to p.count (p.rel SameTxn) in_txn i j l m (omega (arith, e)))
       (λ h. names ∙ eq-eqb (suc (txn_of p i)) (suc (txn_of p j)) (ap (λ (k : ℕ). suc k) (class-from p.count (p.rel SameTxn) in_txn i j h)))
 
-  same_run-within : (i j : ℕ) → i < p.count → j < p.count → same_run (p.member i) (p.member j) ≡ true → Has p SameTxn i j
+  same_run-within : (i j : ℕ) → i < p.count → j < p.count → same_run (p.member i) (p.member j) ≡ true → AreRelated p SameTxn i j
   same_run-within i j l m h = sym (run-is i j l m) ∙ h
 
   pub txn-grouped : IsGrouped p
@@ -167,13 +167,13 @@ module _ (p : Pattern) (law : IsLawful p) (current : ℕ → Bool) (name : DeclI
         let f = there-effect p slots b j in
         rw (e.1, f.1) refl
 
-    sametxn-to : (a b : ℕ) → There slots a → There slots b → sametxn x a b ≡ true → Has p SameTxn (block a) (block b)
+    sametxn-to : (a b : ℕ) → There slots a → There slots b → sametxn x a b ≡ true → AreRelated p SameTxn (block a) (block b)
     sametxn-to a b i j h = elim (or_cases (nat_eq a b) _ h) [
       | inl same ↦ ap (λ k. p.rel SameTxn (block a) (block k)) (sym (eqb-true a b same)) ∙ txns.txn_refl (block a) (within a i)
       | inr run_is ↦ same_run-within (block a) (block b) (within a i) (within b j) (sym (together a b i j) ∙ run_is)
     ]
 
-    sametxn-from : (a b : ℕ) → There slots a → There slots b → Has p SameTxn (block a) (block b) → sametxn x a b ≡ true
+    sametxn-from : (a b : ℕ) → There slots a → There slots b → AreRelated p SameTxn (block a) (block b) → sametxn x a b ≡ true
     sametxn-from a b i j h = or_right (nat_eq a b) _ (together a b i j ∙ run-is (block a) (block b) (within a i) (within b j) ∙ h)
 
     vis-is : (a b : ℕ) → There slots a → There slots b → vis x a b ≡ p.rel Vis (block a) (block b)
@@ -181,12 +181,12 @@ module _ (p : Pattern) (law : IsLawful p) (current : ℕ → Bool) (name : DeclI
         let seen : sees p (at a) (at b) ≡ p.rel Vis (block a) (block b) = ap (λ s. sees p s (at b)) (is-own a i) ∙ ap (λ s. sees p (own (block a)) s) (is-own b j) in
         one_value _ _ (λ h. sym seen ∙ (vis-to p slots a b h).2) (λ h. vis-from p slots a b i j (seen ∙ h))
 
-    object-is : (a b : ℕ) → There slots a → There slots b → sameobj x a b ≡ true → Has p SameObj (block a) (block b)
+    object-is : (a b : ℕ) → There slots a → There slots b → sameobj x a b ≡ true → AreRelated p SameObj (block a) (block b)
     object-is a b i j h =
         let on : (c : ℕ) → There slots c → object_in p (at c).part (block c) ≡ object_of p (block c) = λ c k. ap (λ s. object_in p s (block c)) (part-own c k) in
         class-to p.count (p.rel SameObj) (objects p law) (block a) (block b) (within a i) (within b j) (sym (on a i) ∙ (object-to p slots a b h).2 ∙ on b j)
 
-    so-is : (a b : ℕ) → so x a b ≡ true → Has p So (block a) (block b)
+    so-is : (a b : ℕ) → so x a b ≡ true → AreRelated p So (block a) (block b)
     so-is a b h =
         let s = so-to p slots a b h in
         let less = s.3 in
@@ -206,11 +206,11 @@ module _ (p : Pattern) (law : IsLawful p) (current : ℕ → Bool) (name : DeclI
     not-current a P i h (inr other) = other
 
     abbrev Committed : Type 0
-    Committed = (i j k : ℕ) → current i ≡ true → Has p SameTxn j k → Has p SameObj j k → Has p Vis j i → (current j ≡ true) ⊎ Has p Vis k i
+    Committed = (i j k : ℕ) → current i ≡ true → AreRelated p SameTxn j k → AreRelated p SameObj j k → AreRelated p Vis j i → (current j ≡ true) ⊎ AreRelated p Vis k i
 
     committed : Committed → (a b c : ℕ) → There slots a → There slots b → There slots c → inside x run a ≡ true → inside x run b ≡ false → sametxn x b c ≡ true → sameobj x b c ≡ true → vis x b a ≡ true → vis x c a ≡ true
     committed promise a b c i j k h g t o v =
-        vis-is c a k i ∙ not-current b (Has p Vis (block c) (block a)) j g
+        vis-is c a k i ∙ not-current b (AreRelated p Vis (block c) (block a)) j g
         (promise (block a) (block b) (block c) (current-is a i h) (sametxn-to b c j k t) (object-is b c j k o) (sym (vis-is b a j i) ∙ v))
 
     whole-true : Committed → (a b c : ℕ) → There slots a → There slots b → There slots c
@@ -248,7 +248,7 @@ module _ (p : Pattern) (law : IsLawful p) (current : ℕ → Bool) (name : DeclI
         let two_parts = and_parts (txn && so x a b) (vis x c a) one_part.0 in
         let three = and_parts txn (so x a b) two_parts.0 in
         let t = two-and-two (inside x run a) (inside x run b) (inside x run c) (inside x run d) (sametxn x c c) (sametxn x c d) three.0 in
-        vis-is d b l j ∙ not-current c (Has p Vis (block d) (block b)) k t.2
+        vis-is d b l j ∙ not-current c (AreRelated p Vis (block d) (block b)) k t.2
         (promise.1 (block a) (block b) (block c) (block d) (current-is a i t.0) (current-is b j t.1) (sametxn-to c d k l t.3) (so-is a b three.1) (sym (vis-is c a k i) ∙ two_parts.1) (object-is d b l j one_part.1))))
 
     rr : TxnPromises p current Rr → HoldsTxn x (txn_formula_of Rr) run
@@ -267,7 +267,7 @@ module _ (p : Pattern) (law : IsLawful p) (current : ℕ → Bool) (name : DeclI
         let one_part = and_parts (txn && vis x c a) (sameobj x d b) h in
         let two_parts = and_parts txn (vis x c a) one_part.0 in
         let t = two-and-two (inside x run a) (inside x run b) (inside x run c) (inside x run d) (sametxn x c c) (sametxn x c d) two_parts.0 in
-        vis-is d b l j ∙ not-current c (Has p Vis (block d) (block b)) k t.2
+        vis-is d b l j ∙ not-current c (AreRelated p Vis (block d) (block b)) k t.2
         (promise (block a) (block b) (block c) (block d) (current-is a i t.0) (current-is b j t.1) (sametxn-to c d k l t.3) (sym (vis-is c a k i) ∙ two_parts.1) (object-is d b l j one_part.1)))
 
     pub txn-holds : (level : TxnLevel) → TxnPromises p current level → HoldsTxn x (txn_formula_of level) run

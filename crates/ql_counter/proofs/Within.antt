@@ -16,7 +16,7 @@ use Rattle.ql_counter.proofs.Building.{effect-is, slot_at}
 use Rattle.ql_counter.proofs.EqualConstants.{least-bound}
 use Rattle.ql_counter.specs.declared.counter.Counter.{Counter}
 use Rattle.ql_counter.specs.Assigned.{op_pattern, op_slots, txn_pattern, txn_slots}
-use Rattle.ql_counter.specs.Countermodels.{AreWithin, IsBuiltOfOp, IsBuiltOfTxn, IsDeclared}
+use Rattle.ql_counter.specs.Countermodels.{AreWithin, IsBuiltOfOp, IsBuiltOfTxn, IsDeclaredMember}
 
 -- an object is one of the constants', or the one after them
 object-within : (p : Pattern) (part : Part) (b : ℕ) → object_in p part b ≤ p.count
@@ -26,7 +26,7 @@ object-within p Aide b = least-bound p.count (λ k. p.rel SameObj k b)
 object-within p Own b = least-bound p.count (λ k. p.rel SameObj k b)
 
 module _ (program : Program) where
-  built-within : (p : Pattern) (slots : List Slot) → p.count ≤ 6 → ((c : ℕ) → IsDeclared program (p.member c)) → AreWithin program (built p slots)
+  built-within : (p : Pattern) (slots : List Slot) → p.count ≤ 6 → ((c : ℕ) → IsDeclaredMember program (p.member c)) → AreWithin program (built p slots)
   built-within p slots few declared = λ k d l.
       let x = built p slots in
       let e : Effect = get_or x k d in
@@ -34,7 +34,7 @@ module _ (program : Program) where
       let t = slot_at slots (suc k) in
       let object : e.object.0 ≡ object_in p t.part t.block = ap (λ (u : Effect). u.object.0) same.1 in
       let member : e.member ≡ p.member t.block = ap (λ (u : Effect). u.member) same.1 in
-      (omega (arith, object, few, object-within p t.part t.block), subst (IsDeclared program) (sym member) (declared t.block))
+      (omega (arith, object, few, object-within p t.part t.block), subst (IsDeclaredMember program) (sym member) (declared t.block))
 
   pub op_within : (a : List Bool) (types : List ℕ) (f : Resolved) (result : Result Counter NoMemory) → length f.vars ≤ 5 → IfOk result (IsBuiltOfOp a types f) → IfOk result (λ c. AreWithin program c.execution)
   op_within a types f (Err NoMemory) few h = tt

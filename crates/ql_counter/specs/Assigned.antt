@@ -78,8 +78,8 @@ op_execution a types f = built (op_pattern a types f) (op_slots a types f)
 abbrev pub constant_places : Pattern → List Slot → ℕ → List ℕ
 constant_places p slots n = upto n (λ c. constant_place p slots c ∷ [])
 
-abbrev pub op_places : List Bool → List ℕ → Resolved → List ℕ
-op_places a types f = constant_places (op_pattern a types f) (op_slots a types f) (length f.vars)
+abbrev pub assigned_op_places : List Bool → List ℕ → Resolved → List ℕ
+assigned_op_places a types f = constant_places (op_pattern a types f) (op_slots a types f) (length f.vars)
 
 -- the effect of the last constant, the current one
 abbrev pub op_current : List Bool → List ℕ → Resolved → ℕ
@@ -90,11 +90,11 @@ op_current a types f = constant_place (op_pattern a types f) (op_slots a types f
 abbrev pub run_by : List Bool → Size → ℕ → ℕ
 run_by a s c = suc (class_of s.constants (related_by a s SameTxn) c)
 
-abbrev pub begun : List Bool → Size → ℕ → ℕ → Member
-begun a s d c = Inside (record { 0 = run_by a s c }) (record { 0 = d })
+abbrev pub begun_member : List Bool → Size → ℕ → ℕ → Member
+begun_member a s d c = Inside (record { 0 = run_by a s c }) (record { 0 = d })
 
 abbrev pub txn_pattern : List Bool → List ℕ → ℕ → Resolved → Pattern
-txn_pattern a types d f = let s : Size = txn_size types f in pattern_of a s (begun a s d)
+txn_pattern a types d f = let s : Size = txn_size types f in pattern_of a s (begun_member a s d)
 
 abbrev pub txn_slots : List Bool → List ℕ → ℕ → Resolved → List Slot
 txn_slots a types d f = slots_of (txn_pattern a types d f) no_parts

@@ -49,13 +49,13 @@ abbrev pub block_slots : Pattern → Extra → ℕ → List Slot
 block_slots p extra c = part_slots p extra c Opening ++ (part_slots p extra c Aide ++ (part_slots p extra c Own ++ part_slots p extra c Closing))
 
 -- how many of the numbers below n pass the test
-abbrev pub count_below : ℕ → (ℕ → Bool) → ℕ
-count_below zero test = 0
-count_below (suc n) test = if test n then suc (count_below n test) else count_below n test
+abbrev pub number_below : ℕ → (ℕ → Bool) → ℕ
+number_below zero test = 0
+number_below (suc n) test = if test n then suc (number_below n test) else number_below n test
 
 -- how many constants happen before it
 abbrev pub rank : Pattern → ℕ → ℕ
-rank p c = count_below p.count (λ a. p.rel Hb a c)
+rank p c = number_below p.count (λ a. p.rel Hb a c)
 
 -- the block of a constant that leads its class, among those of a rank
 abbrev pub ranked_slots : Pattern → Extra → ℕ → ℕ → List Slot

@@ -14,7 +14,7 @@ use Rattle.ql_counter.specs.Blocks.{is_link, no_parts, slots_of}
 use Rattle.ql_counter.specs.Built.{built}
 use Rattle.ql_lang.specs.Formulas.{Resolved}
 use Rattle.ql_lang.specs.declared.relation.RelName.{RelName}
-use Rattle.ql_counter.specs.Assigned.{alone, begun, extra_of, is_hb, is_hbo, pattern_of}
+use Rattle.ql_counter.specs.Assigned.{alone, begun_member, extra_of, is_hb, is_hbo, pattern_of}
 use Rattle.ql_counter.specs.declared.naming.Closure.{Closure}
 use Rattle.ql_counter.specs.declared.naming.Closure.TheVariants.{OnOneObject, Across}
 use Rattle.ql_counter.specs.declared.classes.Likeness.{Likeness}
@@ -40,12 +40,12 @@ needs p Closing b i = is_link p b i
 -- constants outside transactions, or each in a begun transaction of a declared name
 abbrev pub members_by : List Bool → Size → Option DeclId → ℕ → Member
 members_by a s None c = Alone
-members_by a s (Some name) c = begun a s name.0 c
+members_by a s (Some name) c = begun_member a s name.0 c
 
 -- the relation is the closure
-abbrev pub is_closure : Closure → RelName → Bool
-is_closure OnOneObject name = is_hbo name
-is_closure Across name = is_hb name
+abbrev pub names_closure : Closure → RelName → Bool
+names_closure OnOneObject name = is_hbo name
+names_closure Across name = is_hb name
 
 -- what is built of an assignment for an operation's contract, where there are so many operations, is an execution
 abbrev pub IsLawfulOp : List Bool → ℕ → Resolved → Type 0
@@ -57,5 +57,5 @@ IsLawfulOp a operations f =
 abbrev pub IsLawfulTxn : List Bool → ℕ → ℕ → Resolved → Type 0
 IsLawfulTxn a operations d f =
     let s : Size = record { constants = length f.vars; operations = operations } in
-    let p : Pattern = pattern_of a s (begun a s d) in
+    let p : Pattern = pattern_of a s (begun_member a s d) in
     IsExecution (built p (slots_of p no_parts))

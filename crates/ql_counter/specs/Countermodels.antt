@@ -17,7 +17,7 @@ use Rattle.ql_exec.specs.declared.effect.Member.TheVariants.{Alone, Inside}
 use Rattle.ql_implication.specs.Countermodels.{IsCounter, IsTxnCounter}
 use Rattle.ql_counter.specs.declared.counter.Counter.{Counter}
 use Rattle.ql_counter.specs.declared.counter.At.TheVariants as at
-use Rattle.ql_counter.specs.Assigned.{op_current, op_execution, op_places, txn_current, txn_execution, txn_places}
+use Rattle.ql_counter.specs.Assigned.{op_current, op_execution, assigned_op_places, txn_current, txn_execution, txn_places}
 
 -- the assignment satisfies the goal's problem
 abbrev pub IsSatisfiedBy : Program → Goal → List Bool → Type 0
@@ -48,12 +48,12 @@ abbrev pub most_objects : ℕ
 most_objects = 7
 
 -- outside transactions, or in one with a name that the program declares
-abbrev pub IsDeclared : Program → Member → Type 0
-IsDeclared p Alone = Unit {0}
-IsDeclared p (Inside run name) = name.0 < length p.txns
+abbrev pub IsDeclaredMember : Program → Member → Type 0
+IsDeclaredMember p Alone = Unit {0}
+IsDeclaredMember p (Inside run name) = name.0 < length p.txns
 
 abbrev pub IsWithin : Program → Effect → Type 0
-IsWithin p e = (e.object.0 < most_objects) × IsDeclared p e.member
+IsWithin p e = (e.object.0 < most_objects) × IsDeclaredMember p e.member
 
 -- objects are numbered from 0, and transactions are the program's
 abbrev pub AreWithin : Program → List Effect → Type 0
@@ -61,7 +61,7 @@ AreWithin p x = All (IsWithin p) x
 
 -- ---- what is built from an assignment
 abbrev pub IsBuiltOfOp : List Bool → List ℕ → Resolved → Counter → Type 0
-IsBuiltOfOp a types f c = (c.execution ≡ op_execution a types f) × (c.at ≡ at.Effect (record { 0 = op_current a types f })) × (numbers c.places ≡ op_places a types f)
+IsBuiltOfOp a types f c = (c.execution ≡ op_execution a types f) × (c.at ≡ at.Effect (record { 0 = op_current a types f })) × (numbers c.places ≡ assigned_op_places a types f)
 
 abbrev pub IsBuiltOfTxn : List Bool → List ℕ → DeclId → Resolved → Counter → Type 0
 IsBuiltOfTxn a types name f c = (c.execution ≡ txn_execution a types name.0 f) × (c.at ≡ at.Run (record { 0 = txn_current a types f })) × (numbers c.places ≡ txn_places a types name.0 f)

@@ -11,7 +11,7 @@ ghost use Rattle.ql_ground.specs.OfPrograms.{IsGoalOf};
 ghost use Rattle.ql_ground.specs.declared.goal.Goal.{Goal};
 ghost use Rattle.ql_counter.specs.Countermodels.{HasCounter, IsSatisfiedBy};
 ghost use Rattle.ql_implication.specs.Countermodels.{IsCounter, IsTxnCounter};
-ghost use Rattle.ql_counter.specs.Assigned.{op_current, op_execution, op_places, txn_current, txn_execution, txn_places};
+ghost use Rattle.ql_counter.specs.Assigned.{op_current, op_execution, assigned_op_places, txn_current, txn_execution, txn_places};
 
 /// The law that each assignment that satisfies a goal's ground problem has a countermodel.
 pub fn satisfied_problems_have_countermodels()
@@ -19,7 +19,7 @@ pub fn satisfied_problems_have_countermodels()
         → IsOpContract (length types) f → o < length types
         → Satisfies a (op_problem types o level f)
         → IsCounter types o level f (op_execution a types f) (op_current a types f)
-        (op_places a types f) }
+        (assigned_op_places a types f) }
     ensures txn { (types : List ℕ) (d : ℕ) (level : TxnLevel) (f : Resolved) (a : List Bool)
         → IsTxnContract (length types) f → Satisfies a (txn_problem types level f)
         → IsTxnCounter types d level f (txn_execution a types d f) (txn_current a types f)

@@ -3,7 +3,7 @@ ghost use Rattle.std.specs.Prelude.{◌≡◌};
 ghost use Rattle.ql_lang.specs.Formulas.{statement_of};
 ghost use Rattle.ql_lang.specs.Trees.{relation_of};
 ghost use Rattle.ql_counter.specs.Assigned as assigned;
-ghost use Rattle.ql_counter.specs.Coded.{is_closure};
+ghost use Rattle.ql_counter.specs.Coded.{names_closure};
 
 use crate::slot::Extra;
 use ql_lang::{Body, Rel, RelName};
@@ -26,7 +26,7 @@ pub(crate) fn extra(body: &Body) -> Extra
 }
 
 fn mentions(closure: Closure, body: &Body) -> bool
-    ensures { result ≡ assigned.mentions (is_closure closure) (statement_of body.now) }
+    ensures { result ≡ assigned.mentions (names_closure closure) (statement_of body.now) }
 {
     match body {
         Body::True => false,
@@ -39,7 +39,7 @@ fn mentions(closure: Closure, body: &Body) -> bool
 }
 
 fn names(closure: Closure, r: &Rel) -> bool
-    ensures { result ≡ assigned.names (is_closure closure) (relation_of r.now) }
+    ensures { result ≡ assigned.names (names_closure closure) (relation_of r.now) }
 {
     match r {
         Rel::Base(name, _) => is(closure, *name),
@@ -49,7 +49,7 @@ fn names(closure: Closure, r: &Rel) -> bool
 }
 
 fn is(closure: Closure, name: RelName) -> bool
-    ensures { result ≡ is_closure closure name }
+    ensures { result ≡ names_closure closure name }
 {
     match closure {
         Closure::OnOneObject => name == RelName::Hbo,

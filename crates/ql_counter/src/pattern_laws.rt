@@ -8,7 +8,7 @@ ghost use Rattle.ql_exec.specs.Execution.{IsExecution};
 ghost use Rattle.ql_formula.specs.Truth.{Holds, HoldsTxn, named};
 ghost use Rattle.ql_counter.specs.declared.slot.Extra.{Extra};
 ghost use Rattle.ql_counter.specs.Patterns.{Pattern};
-ghost use Rattle.ql_counter.specs.Lawful.{IsGrouped, IsLawful, IsTxnLawful, Promises, TxnPromises, run_of};
+ghost use Rattle.ql_counter.specs.Lawful.{IsGrouped, IsLawful, IsTxnLawful, LevelGuarantee, TxnPromises, run_of};
 ghost use Rattle.ql_counter.specs.Blocks.{no_parts, slots_of};
 ghost use Rattle.ql_counter.specs.Built.{built, constant_place};
 ghost use Rattle.ql_counter.specs.Naming.{Shows, named_by};
@@ -24,7 +24,7 @@ pub fn blocks_show_relations()
         → named (built p (slots_of p extra)) name (constant_place p (slots_of p extra) c)
         (constant_place p (slots_of p extra) d) ≡ named_by p name c d }
     ensures levels { (p : Pattern) → IsLawful p → (extra : Extra) (c : ℕ) → c < p.count
-        → (level : Level) → Promises p level c
+        → (level : Level) → LevelGuarantee p level c
         → Holds (built p (slots_of p extra)) (formula_of level)
         (constant_place p (slots_of p extra) c) }
 {}

@@ -18,7 +18,7 @@ use Rattle.ql_exec.specs.declared.effect.Draft.{Draft}
 use Rattle.ql_exec.specs.declared.effect.Effect.{Effect}
 use Rattle.ql_exec.specs.declared.effect.Member.{Member}
 use Rattle.ql_exec.specs.declared.fault.ExecFault.{ExecFault}
-use Rattle.ql_exec.specs.Execution.{effect_of, fault_of, stamp_of}
+use Rattle.ql_exec.specs.Execution.{effect_of, draft_fault, stamp_of}
 use Rattle.ql_effect_lines.specs.declared.effect_line.EffectLine.{EffectLine}
 use Rattle.ql_effect_lines.specs.declared.rules.ReportRule.{ReportRule}
 use Rattle.ql_effect_lines.specs.declared.rules.ReportRule.TheVariants.{Unknown, Mixed, Stamp, TooMany}
@@ -97,7 +97,7 @@ module _ (p : Program) (read more : EffectsRead) (e : EffectLine) where
 
     unmixed : (mixed : Bool) → (if mixed then Err Mixed else with_draft (with_object_name read e.object) drafted e.setting.stamp) ≡ Ok more → IsLawful p read more
     unmixed true h = absurd cc
-    unmixed false h = faultless (fault_of read.effects drafted) h
+    unmixed false h = faultless (draft_fault read.effects drafted) h
 
   with_known : (o : ℕ) → op_place p.types e.op ≡ Some o → (r : Option Member)
       → option_map_or (λ known. after_known p read e known.0 known.1) (option_map (λ member. known_as o member) r) (Err Unknown) ≡ Ok more → IsLawful p read more

@@ -14,7 +14,7 @@ use Rattle.ql_exec.specs.declared.effect.Member.{Member}
 use Rattle.ql_exec.specs.declared.effect.Member.TheVariants.{Alone, Inside}
 use Rattle.ql_exec.specs.declared.fault.ExecFault.{ExecFault}
 use Rattle.ql_exec.specs.declared.fault.ExecFault.TheVariants as exec
-use Rattle.ql_exec.specs.Execution.{effect_of, fault_of, stamp_of}
+use Rattle.ql_exec.specs.Execution.{effect_of, draft_fault, stamp_of}
 use Rattle.ql_lines.specs.declared.fault.LineFault.{LineFault}
 use Rattle.ql_effect_lines.specs.declared.effect_line.EffectLine.{EffectLine}
 use Rattle.ql_effect_lines.specs.declared.rules.ReportRule.{ReportRule}
@@ -91,7 +91,7 @@ with_object_name read w = record { objects = with_name read.objects w; effects =
 -- an effect whose line says this stamp
 abbrev pub with_draft : EffectsRead → Draft → ℕ → Result EffectsRead ReportRule
 with_draft read draft stamp =
-    option_map_or (λ fault. Err (exec_rule fault)) (fault_of read.effects draft)
+    option_map_or (λ fault. Err (exec_rule fault)) (draft_fault read.effects draft)
     (if not (nat_eq (stamp_of read.effects draft.session draft.seen) stamp) then Err Stamp
     else (if nat_le most_effects (length read.effects) then Err TooMany
     else Ok (with_read_effect read draft)))
@@ -113,6 +113,6 @@ abbrev pub after_effect : Program → EffectsRead → EffectLine → Result Effe
 after_effect p read e = option_map_or (λ known. after_known p read e known.0 known.1) (known_of p e) (Err Unknown)
 
 -- a reader's answer, with the effects that it leaves behind
-abbrev pub with_state : {U : Type 0} → EffectsRead → Result U (LineFault ReportRule) → Result EffectsRead (LineFault ReportRule)
-with_state read (Ok u) = Ok read
-with_state read (Err fault) = Err fault
+abbrev pub with_effects_read : {U : Type 0} → EffectsRead → Result U (LineFault ReportRule) → Result EffectsRead (LineFault ReportRule)
+with_effects_read read (Ok u) = Ok read
+with_effects_read read (Err fault) = Err fault

@@ -20,7 +20,7 @@ ghost use Rattle.ql_effect_lines.specs.Effects.{
   object_of_type,
   with_draft,
   with_object_name,
-  with_state,
+  with_effects_read,
 };
 
 use crate::effect_line::EffectLine;
@@ -57,7 +57,7 @@ impl EffectsRead {
         requires named { length self.old.objects ≤ length self.old.effects }
         requires known { AreOfProgram t.now.program self.old.effects }
         ensures { IsLineAnswer (λ x. (after_effect t.now.program self.old line) ≡ x)
-            (with_state self.new result) }
+            (with_effects_read self.new result) }
     {
         match known(t, &line) {
             Some((op, member)) => self.add_known(t, line, op, member),
@@ -78,7 +78,7 @@ impl EffectsRead {
         requires known { AreOfProgram t.now.program self.old.effects }
         requires op { op.0 < length (all_ops t.now.program.types) }
         ensures { IsLineAnswer (λ x. (after_known t.now.program self.old line op member) ≡ x)
-            (with_state self.new result) }
+            (with_effects_read self.new result) }
     {
         let object = self.number_object(t, &line.object, op)?;
         let stamp = line.setting.stamp;
@@ -111,7 +111,7 @@ impl EffectsRead {
     fn push(&mut self, draft: Draft, stamp: u32) -> Result<(), LineFault<ReportRule>>
         requires few { length self.old.effects ≤ most_effects }
         ensures { IsLineAnswer (λ x. (with_draft self.old draft stamp) ≡ x)
-            (with_state self.new result) }
+            (with_effects_read self.new result) }
     {
         match self.effects.push(draft) {
             Ok(_) => {}

@@ -15,7 +15,7 @@ use Rattle.ql_exec.specs.declared.effect.Member.TheVariants.{Alone, Inside}
 use Rattle.ql_exec.specs.declared.fault.ExecFault.{ExecFault}
 use Rattle.ql_exec.specs.Effects.{effect_at, one, both, in_run, of_session, last}
 use Rattle.ql_exec.specs.Relations.{so, sametxn, same_run}
-use Rattle.ql_exec.specs.Execution.{IsOn, SeesEarlier, IsExecution, is_elsewhere, is_declared_as, same_name, strays, splits, fault_of, effect_of}
+use Rattle.ql_exec.specs.Execution.{IsOn, SeesEarlier, IsExecution, is_elsewhere, is_declared_as, same_name, strays, splits, draft_fault, effect_of}
 use Rattle.ql_exec.proofs.Finding.{effect_at-within, effect_at-append, effect_at-last, cases_pushed, both-found, any_at, any_found, LastIs, nothing, effect, last_is, so_parts, so_from, sametxn_parts, sametxn_from, same_run-join, in_run-along, same_run-of}
 
 -- ---- what an effect sees
@@ -250,7 +250,7 @@ fault_cases false true r a b c none = absurd (let never : Some b ≡ None = none
 fault_cases false false true a b c none = absurd (let never : Some c ≡ None = none in cc)
 fault_cases false false false a b c none = (refl, refl, refl)
 
-pub faultless : (x : List Effect) (draft : Draft) → IsAscending draft.seen → fault_of x draft ≡ None
+pub faultless : (x : List Effect) (draft : Draft) → IsAscending draft.seen → draft_fault x draft ≡ None
     → SeesEarlier x (suc (length x)) draft.object draft.seen × (splits x draft.session draft.member ≡ false)
 faultless x draft ascending none =
     let parts = fault_cases (list_any (λ id. is_none (effect_at x id)) draft.seen)
@@ -340,7 +340,7 @@ whole_from x e law (Inside run name) is = elim (cases_Bool (list_any (λ f. in_r
       | inr (inr more) ↦ absurd (let bound = highest id g there (own id g there member) in omega (arith, bound, more))
     ]
 
-pub no_fault : (x : List Effect) (draft : Draft) → SeesEarlier x (suc (length x)) draft.object draft.seen → splits x draft.session draft.member ≡ false → fault_of x draft ≡ None
+pub no_fault : (x : List Effect) (draft : Draft) → SeesEarlier x (suc (length x)) draft.object draft.seen → splits x draft.session draft.member ≡ false → draft_fault x draft ≡ None
 no_fault x draft sees whole =
     rw (
       has_id-any (λ id. is_none (effect_at x id)) draft.seen (λ a has. (tests-from_IsOn draft.object (effect_at x a) (sees.0 a has).1).0),
@@ -350,7 +350,7 @@ no_fault x draft sees whole =
     refl
 
 pub fault_of-None : (x : List Effect) (draft : Draft) → IsExecution x → IsAscending draft.seen
-    → (fault_of x draft ≡ None) ↔ IsExecution (x ++ effect_of x draft ∷ [])
+    → (draft_fault x draft ≡ None) ↔ IsExecution (x ++ effect_of x draft ∷ [])
 fault_of-None x draft law ascending = (
   (λ none. let sound = faultless x draft ascending none in IsExecution-push x draft law sound.0 sound.1),
   (λ longer.

@@ -4,16 +4,16 @@ use Rattle.ql_exec.specs.declared.effect.Effect.{Effect}
 use Rattle.ql_exec.specs.declared.effect.Draft.{Draft}
 use Rattle.ql_exec.specs.declared.fault.ExecFault.{ExecFault}
 use Rattle.ql_exec.specs.declared.fault.ExecFault.TheVariants.{NotForward, OtherObject, SplitTxn, NoMemory}
-use Rattle.ql_exec.specs.Execution.{fault_of, effect_of, made_after, IsPushAnswer, IsMade}
+use Rattle.ql_exec.specs.Execution.{draft_fault, effect_of, made_after, IsPushAnswer, IsMade}
 
-pub made_step : (x : List Effect) (draft : Draft) (drafts : List Draft) → fault_of x draft ≡ None → made_after x (draft ∷ drafts) ≡ made_after (x ++ effect_of x draft ∷ []) drafts
+pub made_step : (x : List Effect) (draft : Draft) (drafts : List Draft) → draft_fault x draft ≡ None → made_after x (draft ∷ drafts) ≡ made_after (x ++ effect_of x draft ∷ []) drafts
 made_step x draft drafts none = rw none refl
 
-made_refused : (x : List Effect) (draft : Draft) (drafts : List Draft) (fault : ExecFault) → fault_of x draft ≡ Some fault → made_after x (draft ∷ drafts) ≡ Err fault
+made_refused : (x : List Effect) (draft : Draft) (drafts : List Draft) (fault : ExecFault) → draft_fault x draft ≡ Some fault → made_after x (draft ∷ drafts) ≡ Err fault
 made_refused x draft drafts fault is = rw is refl
 
 -- a draft with a fault has the fault's answer
-pub IsPushAnswer-fault : (x : List Effect) (draft : Draft) (fault : ExecFault) → fault_of x draft ≡ Some fault → IsPushAnswer x draft (Err fault)
+pub IsPushAnswer-fault : (x : List Effect) (draft : Draft) (fault : ExecFault) → draft_fault x draft ≡ Some fault → IsPushAnswer x draft (Err fault)
 IsPushAnswer-fault x draft (NotForward at) is = is
 IsPushAnswer-fault x draft (OtherObject at) is = is
 IsPushAnswer-fault x draft (SplitTxn at) is = is

@@ -101,8 +101,8 @@ next_id effects = record { 0 = suc (length effects) }
 
 -- why a draft can't be the next effect: first, that it sees an id of no earlier effect; then, that it sees one on
 -- another object; then, that it splits its transaction
-abbrev pub fault_of : List Effect → Draft → Option ExecFault
-fault_of effects draft =
+abbrev pub draft_fault : List Effect → Draft → Option ExecFault
+draft_fault effects draft =
     if list_any (λ id. is_none (effect_at effects id)) draft.seen then Some (NotForward (next_id effects))
     else (if list_any (λ id. is_elsewhere draft.object (effect_at effects id)) draft.seen then Some (OtherObject (next_id effects))
     else (if splits effects draft.session draft.member then Some (SplitTxn (next_id effects))
@@ -128,17 +128,17 @@ effect_of effects draft = with_stamp draft (stamp_of effects draft.session draft
 
 -- what may be returned for a draft
 abbrev pub IsPushAnswer : List Effect → Draft → Result EffId ExecFault → Type 0
-IsPushAnswer effects draft (Ok id) = (fault_of effects draft ≡ None) × (id ≡ next_id effects)
-IsPushAnswer effects draft (Err (NotForward at)) = fault_of effects draft ≡ Some (NotForward at)
-IsPushAnswer effects draft (Err (OtherObject at)) = fault_of effects draft ≡ Some (OtherObject at)
-IsPushAnswer effects draft (Err (SplitTxn at)) = fault_of effects draft ≡ Some (SplitTxn at)
+IsPushAnswer effects draft (Ok id) = (draft_fault effects draft ≡ None) × (id ≡ next_id effects)
+IsPushAnswer effects draft (Err (NotForward at)) = draft_fault effects draft ≡ Some (NotForward at)
+IsPushAnswer effects draft (Err (OtherObject at)) = draft_fault effects draft ≡ Some (OtherObject at)
+IsPushAnswer effects draft (Err (SplitTxn at)) = draft_fault effects draft ≡ Some (SplitTxn at)
 IsPushAnswer effects draft (Err NoMemory) = Unit {0}
 
 -- the effects that drafts become one after another, or the fault of the first that has one
 abbrev pub made_after : List Effect → List Draft → Result (List Effect) ExecFault
 made_after effects [] = Ok effects
 made_after effects (draft ∷ drafts) =
-    option_map_or (λ fault. Err fault) (fault_of effects draft) (made_after (effects ++ effect_of effects draft ∷ []) drafts)
+    option_map_or (λ fault. Err fault) (draft_fault effects draft) (made_after (effects ++ effect_of effects draft ∷ []) drafts)
 
 -- what may be returned for drafts
 abbrev pub IsMade : List Draft → Result (List Effect) ExecFault → Type 0

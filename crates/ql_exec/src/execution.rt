@@ -3,7 +3,7 @@ ghost use Rattle.std.specs.Option.{option_copied};
 ghost use Rattle.ql_base.specs.IdLists.{IsAscending};
 ghost use Rattle.ql_exec.specs.declared.effect.Effect.{Effect};
 ghost use Rattle.ql_exec.specs.Effects.{effect_at, of_session, last};
-ghost use Rattle.ql_exec.specs.Execution.{IsExecution, fault_of, effect_of, next_id, IsPushAnswer, IsMade, stamp_of, with_stamp};
+ghost use Rattle.ql_exec.specs.Execution.{IsExecution, draft_fault, effect_of, next_id, IsPushAnswer, IsMade, stamp_of, with_stamp};
 ghost use Rattle.ql_exec.specs.Latest.{FindsLast, IsLastOf, KnowsRuns, has_entry, latest_of, KnowsRunOf};
 ghost use Rattle.ql_exec.specs.Links.{HasLinks};
 
@@ -135,7 +135,7 @@ impl Execution {
         ensures answer { IsPushAnswer self.old draft result }
         ensures pushed { OnOk result (self.new ≡ self.old ++ effect_of self.old draft ∷ []) }
         ensures err { OnErr result (self.new ≡ self.old) }
-        ensures lawful { (fault_of self.old draft ≡ None)
+        ensures lawful { (draft_fault self.old draft ≡ None)
             ↔ IsExecution (self.old ++ effect_of self.old draft ∷ []) }
     {
         let place = match self.place(&draft) {
@@ -150,10 +150,10 @@ impl Execution {
     fn place(&self, draft: &Draft) -> Result<Place, ExecFault>
         requires { length self.now + 1 < 2 ^ 32 }
         ensures placed { MatchResult result
-            (λ place. (fault_of self.now draft.now ≡ None)
+            (λ place. (draft_fault self.now draft.now ≡ None)
             × (place.stamp ≡ stamp_of self.now draft.now.session draft.now.seen)
             × IsLastOf self.now draft.now.session place.before)
-            (λ fault. fault_of self.now draft.now ≡ Some fault) }
+            (λ fault. draft_fault self.now draft.now ≡ Some fault) }
         ensures execution { IsExecution self.now }
         ensures ascending { IsAscending draft.now.seen }
     {

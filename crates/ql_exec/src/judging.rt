@@ -3,7 +3,7 @@ ghost use Rattle.std.specs.List.{list_any};
 ghost use Rattle.std.specs.Option.{option_copied, option_map_or};
 ghost use Rattle.ql_base.specs.IdLists.{IsAscending};
 ghost use Rattle.ql_exec.specs.Effects.{effect_at, in_run, of_session, last};
-ghost use Rattle.ql_exec.specs.Execution.{is_elsewhere, is_declared_as, IsExecution, splits, stamp_at, stamp_of, fault_of, next_id};
+ghost use Rattle.ql_exec.specs.Execution.{is_elsewhere, is_declared_as, IsExecution, splits, stamp_at, stamp_of, draft_fault, next_id};
 ghost use Rattle.ql_exec.specs.Latest.{KnowsRuns};
 
 use crate::effect::{Draft, Effect, Member};
@@ -24,7 +24,7 @@ pub(crate) fn fault_in(
         ≡ last (of_session effects.now draft.now.session) }
     requires runs { KnowsRuns runs.now effects.now }
     requires next { id ≡ next_id effects.now }
-    ensures value { result ≡ fault_of effects.now draft.now }
+    ensures value { result ≡ draft_fault effects.now draft.now }
     ensures ascending { IsAscending draft.now.seen }
 {
     let seen = draft.seen.items();

@@ -13,7 +13,7 @@ use Rattle.ql_effect_lines.specs.declared.rules.ReportRule.TheVariants.{Unexpect
 use Rattle.ql_execution_files.specs.declared.format.ExecutionReading.{ExecutionReading}
 use Rattle.ql_execution_files.specs.declared.format.ExecutionReading.TheVariants.{Unbegun, WithEffects, Ended}
 use Rattle.ql_execution_files.specs.declared.report_fault.ReportFault.{ReportFault}
-use Rattle.ql_execution_files.specs.ExecutionFile.{ClosesExecution, FirstExecutionFault, fault_at, gives}
+use Rattle.ql_execution_files.specs.ExecutionFile.{ClosesExecution, FirstExecutionFault, report_fault_at, gives}
 use Rattle.ql_execution_files.proofs.Files as files
 use Rattle.ql_execution_files.specs.FirstFaults.FirstTextFault.{at_line as line_fault, at_end as end_of_file}
 use Rattle.ql_execution_files.specs.FirstFaults.{BreaksExecutionRule, FirstTextFault}
@@ -35,17 +35,17 @@ module _ (p : Program) (file : Ahead) where
   abbrev early : Broken ReportRule
   early = record { line = file.end; rule = Unexpected }
 
-  at_the_end : (broken : Broken ReportRule) → ◌≡◌ {A = Result (List Effect) (Broken ReportRule)} (Err broken) (Err early) → FirstTextFault p file (fault_at Unexpected file.end) → FirstTextFault p file (fault_at broken.rule broken.line)
-  at_the_end broken e fault = let same : early ≡ broken = cc in subst (λ (b : Broken ReportRule). FirstTextFault p file (fault_at b.rule b.line)) same fault
+  at_the_end : (broken : Broken ReportRule) → ◌≡◌ {A = Result (List Effect) (Broken ReportRule)} (Err broken) (Err early) → FirstTextFault p file (report_fault_at Unexpected file.end) → FirstTextFault p file (report_fault_at broken.rule broken.line)
+  at_the_end broken e fault = let same : early ≡ broken = cc in subst (λ (b : Broken ReportRule). FirstTextFault p file (report_fault_at b.rule b.line)) same fault
 
-  end_fault : (s : ExecutionReading) (broken : Broken ReportRule) → Reached p texts s → ClosesExecution s file.end (Err broken) → FirstTextFault p file (fault_at broken.rule broken.line)
+  end_fault : (s : ExecutionReading) (broken : Broken ReportRule) → Reached p texts s → ClosesExecution s file.end (Err broken) → FirstTextFault p file (report_fault_at broken.rule broken.line)
   end_fault Unbegun broken all c = at_the_end broken c (end_of_file (begins p texts Unbegun all) (λ es h. not_opened (Whole es) texts all (opened_of texts es h)))
   end_fault (WithEffects read) broken has c =
       at_the_end broken c (end_of_file (begins p texts (WithEffects read) has) (λ es h.
       no_whole 1 has.opened.rest has.effects es has.opened.holds (holds_too (Spelled has.effects) (Whole es) texts has.opened (opened_of texts es h))))
   end_fault (Ended read) broken has c = absurd cc
 
-  fault_of_file : (broken : Broken ReportRule) → FirstFault (gives p) ClosesExecution Unbegun file broken → FirstTextFault p file (fault_at broken.rule broken.line)
+  fault_of_file : (broken : Broken ReportRule) → FirstFault (gives p) ClosesExecution Unbegun file broken → FirstTextFault p file (report_fault_at broken.rule broken.line)
   fault_of_file broken (at_line before l rest s rule are h g) =
       let there = reached p before s h in
       line_fault before l rest rule are (begins p (texts_of before) s there) (subst (λ ks. BreaksExecutionRule p ks rule) (sym (texts_more before l)) (breaks p (texts_of before) s l.text rule there g))

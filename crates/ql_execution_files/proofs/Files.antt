@@ -18,8 +18,8 @@ use Rattle.ql_effect_lines.specs.Effects.{AreOfProgram, after_effect}
 use Rattle.ql_execution_files.specs.declared.format.ExecutionReading.{ExecutionReading}
 use Rattle.ql_execution_files.specs.declared.format.ExecutionReading.TheVariants.{Unbegun, WithEffects, Ended}
 use Rattle.ql_execution_files.specs.declared.report_fault.ReportFault.{ReportFault}
-use Rattle.ql_execution_files.specs.ExecutionFile.{AreSound, ClosesExecution, FirstExecutionFault, ExtendsExecution, IsExecutionFile, IsNextEffect, end_fields, fault_at, gives}
-use Rattle.ql_execution_files.specs.OneLine.{closes_one, closes_some, gives_one, gives_some, takes_sound}
+use Rattle.ql_execution_files.specs.ExecutionFile.{AreSound, ClosesExecution, FirstExecutionFault, ExtendsExecution, IsExecutionFile, IsNextEffect, end_fields, report_fault_at, gives}
+use Rattle.ql_execution_files.specs.OneLine.{execution_closes_once, execution_closes_somehow, gives_one, gives_some, takes_sound}
 
 -- what an effect's line is refused for
 pub broken : (p : Program) (read : EffectsRead) (text : List ℕ) (e : EffectLine) → IsEffectLine text (suc (length read.effects)) e → (fault : LineFault ReportRule)
@@ -49,7 +49,7 @@ module _ (p : Program) where
     file_sound x h = sound_at x h.state (leads_sound file.lines Unbegun h.state tt h.leads) h.ends
 
     one : (x y : Result (List Effect) (Broken ReportRule)) → Outcome (gives p) ClosesExecution Unbegun file x → Outcome (gives p) ClosesExecution Unbegun file y → x ≡ y
-    one = law.one_outcome (gives p) ClosesExecution (λ s l x y. gives_one p s l.text x y) closes_one Unbegun file
+    one = law.one_outcome (gives p) ClosesExecution (λ s l x y. gives_one p s l.text x y) execution_closes_once Unbegun file
 
     pub one_execution : (x y : List Effect) → IsExecutionFile p file x → IsExecutionFile p file y → x ≡ y
     one_execution x y h k = let same : ◌≡◌ {A = Result (List Effect) (Broken ReportRule)} (Ok x) (Ok y) = one (Ok x) (Ok y) h k in cc
@@ -58,7 +58,7 @@ module _ (p : Program) where
     one_fault f g h k =
         let same : ◌≡◌ {A = Result (List Effect) (Broken ReportRule)} (Err h.broken) (Err k.broken) = one (Err h.broken) (Err k.broken) h.first k.first in
         let broken : h.broken ≡ k.broken = cc in
-        h.is ∙ ap (λ (b : Broken ReportRule). fault_at b.rule b.line) broken ∙ sym k.is
+        h.is ∙ ap (λ (b : Broken ReportRule). report_fault_at b.rule b.line) broken ∙ sym k.is
 
     pub apart : (x : List Effect) (f : ReportFault) → IsExecutionFile p file x → FirstExecutionFault p file f → ⊥
     apart x f h k = let same : ◌≡◌ {A = Result (List Effect) (Broken ReportRule)} (Ok x) (Err k.broken) = one (Ok x) (Err k.broken) h k.first in absurd cc
@@ -67,7 +67,7 @@ module _ (p : Program) where
     both_none : ((x : List Effect) → IsExecutionFile p file x → ⊥) → ((f : ReportFault) → FirstExecutionFault p file f → ⊥) → (x : Result (List Effect) (Broken ReportRule))
         → Outcome (gives p) ClosesExecution Unbegun file x → ⊥
     both_none no_execution no_fault (Ok x) h = no_execution x h
-    both_none no_execution no_fault (Err broken) h = no_fault (fault_at broken.rule broken.line) (record { broken = broken; first = h; is = refl })
+    both_none no_execution no_fault (Err broken) h = no_fault (report_fault_at broken.rule broken.line) (record { broken = broken; first = h; is = refl })
 
     pub some : ((x : List Effect) → IsExecutionFile p file x → ⊥) → ((f : ReportFault) → FirstExecutionFault p file f → ⊥) → ⊥
-    some no_execution no_fault = law.some_outcome (gives p) ClosesExecution (λ s l. gives_some p s l.text) closes_some Unbegun file (both_none no_execution no_fault)
+    some no_execution no_fault = law.some_outcome (gives p) ClosesExecution (λ s l. gives_some p s l.text) execution_closes_somehow Unbegun file (both_none no_execution no_fault)

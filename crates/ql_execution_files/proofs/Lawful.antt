@@ -9,7 +9,7 @@ use Rattle.ql_lang.specs.declared.program.Program.{Program}
 use Rattle.ql_exec.specs.declared.effect.Draft.{Draft}
 use Rattle.ql_exec.specs.declared.effect.Member.{Member}
 use Rattle.ql_exec.specs.declared.fault.ExecFault.{ExecFault}
-use Rattle.ql_exec.specs.Execution.{fault_of, stamp_of}
+use Rattle.ql_exec.specs.Execution.{draft_fault, stamp_of}
 use Rattle.ql_effect_lines.specs.declared.effect_line.EffectLine.{EffectLine}
 use Rattle.ql_effect_lines.specs.declared.rules.ReportRule.{ReportRule}
 use Rattle.ql_effect_lines.specs.declared.rules.ReportRule.TheVariants.{Unknown, Mixed, Stamp, TooMany}
@@ -39,7 +39,7 @@ pub record IsAllowed (p : Program) (read : EffectsRead) (e : EffectLine) (more :
   pub known : OpId × Member
   pub found : known_of p e ≡ Some known
   pub unmixed : is_mixed p read.effects (object_of read e) known.0 ≡ false
-  pub faultless : fault_of read.effects (draft_of read e known) ≡ None
+  pub faultless : draft_fault read.effects (draft_of read e known) ≡ None
   pub stamp : stamp_of read.effects (draft_of read e known).session (draft_of read e known).seen ≡ e.setting.stamp
   pub room : nat_le most_effects (length read.effects) ≡ false
   pub to : more ≡ one_more read e known
@@ -59,13 +59,13 @@ module _ (p : Program) (read : EffectsRead) (e : EffectLine) where
   by_fault known fault = option_map_or (λ f. broken (exec_rule f)) fault (by_stamp known (has_stamp known))
 
   abbrev by_type : OpId × Member → Bool → Answer
-  by_type known mixed = if mixed then broken Mixed else by_fault known (fault_of read.effects (draft_of read e known))
+  by_type known mixed = if mixed then broken Mixed else by_fault known (draft_fault read.effects (draft_of read e known))
 
   abbrev by_names : Option (OpId × Member) → Answer
   by_names known = option_map_or (λ k. by_type k (is_mixed p read.effects (object_of read e) k.0)) known (broken Unknown)
 
   module _ (more : EffectsRead) where
-    module _ (known : OpId × Member) (found : known_of p e ≡ Some known) (unmixed : is_mixed p read.effects (object_of read e) known.0 ≡ false) (faultless : fault_of read.effects (draft_of read e known) ≡ None) where
+    module _ (known : OpId × Member) (found : known_of p e ≡ Some known) (unmixed : is_mixed p read.effects (object_of read e) known.0 ≡ false) (faultless : draft_fault read.effects (draft_of read e known) ≡ None) where
       room_case : (full : Bool) → nat_le most_effects (length read.effects) ≡ full → has_stamp known ≡ true → by_room known full ≡ as_read more → IsAllowed p read e more
       room_case true is same h = absurd cc
       room_case false is same h = record {
@@ -82,14 +82,14 @@ module _ (p : Program) (read : EffectsRead) (e : EffectLine) where
       stamp_case false is h = absurd cc
       stamp_case true is h = room_case (nat_le most_effects (length read.effects)) refl is h
 
-    fault_case : (known : OpId × Member) → known_of p e ≡ Some known → is_mixed p read.effects (object_of read e) known.0 ≡ false → (fault : Option ExecFault) → fault_of read.effects (draft_of read e known) ≡ fault
+    fault_case : (known : OpId × Member) → known_of p e ≡ Some known → is_mixed p read.effects (object_of read e) known.0 ≡ false → (fault : Option ExecFault) → draft_fault read.effects (draft_of read e known) ≡ fault
         → by_fault known fault ≡ as_read more → IsAllowed p read e more
     fault_case known found unmixed (Some f) is h = absurd cc
     fault_case known found unmixed None is h = stamp_case known found unmixed is (has_stamp known) refl h
 
     type_case : (known : OpId × Member) → known_of p e ≡ Some known → (mixed : Bool) → is_mixed p read.effects (object_of read e) known.0 ≡ mixed → by_type known mixed ≡ as_read more → IsAllowed p read e more
     type_case known found true is h = absurd cc
-    type_case known found false is h = fault_case known found is (fault_of read.effects (draft_of read e known)) refl h
+    type_case known found false is h = fault_case known found is (draft_fault read.effects (draft_of read e known)) refl h
 
     names_case : (known : Option (OpId × Member)) → known_of p e ≡ known → by_names known ≡ as_read more → IsAllowed p read e more
     names_case None is h = absurd cc

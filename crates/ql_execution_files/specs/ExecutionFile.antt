@@ -103,27 +103,27 @@ abbrev pub IsExecutionFile : Program → Ahead → List Effect → Type 0
 IsExecutionFile p file x = outcomes.Says (gives p) ClosesExecution Unbegun file x
 
 -- a rule that is broken at a line
-abbrev pub fault_at : ReportRule → ℕ → ReportFault
-fault_at Unexpected line = fault.Unexpected line
-fault_at Unknown line = fault.Unknown line
-fault_at Mixed line = fault.Mixed line
-fault_at Stamp line = fault.Stamp line
-fault_at NotForward line = fault.NotForward line
-fault_at OtherObject line = fault.OtherObject line
-fault_at SplitTxn line = fault.SplitTxn line
-fault_at TooMany line = fault.TooMany line
+abbrev pub report_fault_at : ReportRule → ℕ → ReportFault
+report_fault_at Unexpected line = fault.Unexpected line
+report_fault_at Unknown line = fault.Unknown line
+report_fault_at Mixed line = fault.Mixed line
+report_fault_at Stamp line = fault.Stamp line
+report_fault_at NotForward line = fault.NotForward line
+report_fault_at OtherObject line = fault.OtherObject line
+report_fault_at SplitTxn line = fault.SplitTxn line
+report_fault_at TooMany line = fault.TooMany line
 
 abbrev pub report_fault_of : FileFault ReportRule → ReportFault
-report_fault_of (file.Broken broken) = fault_at broken.rule broken.line
+report_fault_of (file.Broken broken) = report_fault_at broken.rule broken.line
 report_fault_of file.NoMemory = fault.NoMemory
 
 -- the first fault of a file: its first line that breaks a rule, or that the file ends too early
 pub record FirstExecutionFault (p : Program) (file : Ahead) (f : ReportFault) : Type 0 where
   pub broken : Broken ReportRule
   pub first : outcomes.FirstFault (gives p) ClosesExecution Unbegun file broken
-  pub is : f ≡ fault_at broken.rule broken.line
+  pub is : f ≡ report_fault_at broken.rule broken.line
 
 -- a refusal is the first fault, or that memory has run out
-abbrev pub IsRefusal : Program → Ahead → ReportFault → Type 0
-IsRefusal p file fault.NoMemory = Unit {0}
-IsRefusal p file f = FirstExecutionFault p file f
+abbrev pub IsReportRefusal : Program → Ahead → ReportFault → Type 0
+IsReportRefusal p file fault.NoMemory = Unit {0}
+IsReportRefusal p file f = FirstExecutionFault p file f

@@ -8,7 +8,7 @@ use Rattle.ql_effect_lines.specs.declared.rules.ReportRule.{ReportRule}
 use Rattle.ql_effect_lines.specs.declared.rules.ReportRule.TheVariants.{Unexpected}
 use Rattle.ql_effect_lines.specs.Effects.{after_effect}
 use Rattle.ql_execution_files.specs.declared.report_fault.ReportFault.{ReportFault}
-use Rattle.ql_execution_files.specs.ExecutionFile.{fault_at}
+use Rattle.ql_execution_files.specs.ExecutionFile.{report_fault_at}
 use Rattle.ql_execution_files.specs.Grammar.{IsExecutionText}
 use Rattle.ql_execution_files.specs.Readings.{SaysExecution, read_as}
 
@@ -31,6 +31,6 @@ pub data BreaksExecutionRule (p : Program) (lines : List (List ℕ)) : ReportRul
 -- The first fault: the first line that breaks a rule; or the file's end, where lines are lacking.
 pub data FirstTextFault (p : Program) (file : Ahead) : ReportFault → Type 0 where
   at_line : (before : List Numbered) (l : Numbered) (rest : List Numbered) (rule : ReportRule) → file.lines ≡ before ++ l ∷ rest → BeginsExecutionFile p (texts_of before)
-      → BreaksExecutionRule p (texts_of (before ++ l ∷ [])) rule → FirstTextFault p file (fault_at rule l.number)
+      → BreaksExecutionRule p (texts_of (before ++ l ∷ [])) rule → FirstTextFault p file (report_fault_at rule l.number)
   at_end : BeginsExecutionFile p (texts_of file.lines) → ((effects : List EffectLine) → IsExecutionText (texts_of file.lines) effects → ⊥)
-      → FirstTextFault p file (fault_at Unexpected file.end)
+      → FirstTextFault p file (report_fault_at Unexpected file.end)

@@ -96,12 +96,12 @@ module _ (p : Program) where
         no_end = λ e. none (Ok (Ended read)) (inr (record { is = e; to = refl }));
       }))
 
-pub closes_one : (s : ExecutionReading) (end : ℕ) (x y : Result (List Effect) (Broken ReportRule)) → ClosesExecution s end x → ClosesExecution s end y → x ≡ y
-closes_one Unbegun end x y p q = p ∙ sym q
-closes_one (WithEffects read) end x y p q = p ∙ sym q
-closes_one (Ended read) end x y p q = p ∙ sym q
+pub execution_closes_once : (s : ExecutionReading) (end : ℕ) (x y : Result (List Effect) (Broken ReportRule)) → ClosesExecution s end x → ClosesExecution s end y → x ≡ y
+execution_closes_once Unbegun end x y p q = p ∙ sym q
+execution_closes_once (WithEffects read) end x y p q = p ∙ sym q
+execution_closes_once (Ended read) end x y p q = p ∙ sym q
 
-pub closes_some : (s : ExecutionReading) (end : ℕ) → ((x : Result (List Effect) (Broken ReportRule)) → ClosesExecution s end x → ⊥) → ⊥
-closes_some Unbegun end none = none _ refl
-closes_some (WithEffects read) end none = none _ refl
-closes_some (Ended read) end none = none _ refl
+pub execution_closes_somehow : (s : ExecutionReading) (end : ℕ) → ((x : Result (List Effect) (Broken ReportRule)) → ClosesExecution s end x → ⊥) → ⊥
+execution_closes_somehow Unbegun end none = none _ refl
+execution_closes_somehow (WithEffects read) end none = none _ refl
+execution_closes_somehow (Ended read) end none = none _ refl

@@ -5,7 +5,7 @@ ghost use Rattle.ql_lines.specs.Fields.{fields_of};
 ghost use Rattle.ql_effect_lines.specs.Effects.{IsSoundRead};
 ghost use Rattle.ql_execution_files.specs.declared.format.ExecutionReading.TheVariants.{Unbegun, WithEffects};
 ghost use Rattle.ql_execution_files.specs.ExecutionFile.{AreSound, ClosesExecution, ExtendsExecution, IsNextEffect};
-ghost use Rattle.ql_execution_files.specs.OneLine.{closes_one, closes_some, gives_one, gives_some, takes_sound};
+ghost use Rattle.ql_execution_files.specs.OneLine.{execution_closes_once, execution_closes_somehow, gives_one, gives_some, takes_sound};
 
 use ql_base::Names;
 use ql_effect_lines::{EffectLine, EffectsRead, ReportRule, read_line};
@@ -86,9 +86,9 @@ impl<'a> LineFormat for Format<'a> {
 
     ghost gives_some = { λ f s l none. gives_some f.t.now.program s l.text none };
 
-    ghost closes_one = { λ f s end x y p q. closes_one s end x y p q };
+    ghost closes_one = { λ f s end x y p q. execution_closes_once s end x y p q };
 
-    ghost closes_some = { λ f s end none. closes_some s end none };
+    ghost closes_some = { λ f s end none. execution_closes_somehow s end none };
 }
 
 // A line before the effects.

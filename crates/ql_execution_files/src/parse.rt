@@ -1,7 +1,7 @@
 ghost use Rattle.std.specs.Prelude.{◌≤◌, IfOk, MatchResult, length};
 ghost use Rattle.ql_lines.specs.Lines.{ahead_from};
 ghost use Rattle.ql_effect_lines.specs.Effects.{AreOfProgram};
-ghost use Rattle.ql_execution_files.specs.ExecutionFile.{IsExecutionFile, IsRefusal};
+ghost use Rattle.ql_execution_files.specs.ExecutionFile.{IsExecutionFile, IsReportRefusal};
 
 use crate::format::Format;
 use crate::report_fault::{ReportFault, fault_of};
@@ -15,7 +15,7 @@ use std::alloc::Global;
 pub fn parse_execution(alloc: Global, t: &Typed, bytes: &[u8]) -> Result<Execution, ReportFault>
     ensures read { MatchResult result
         (λ x. IsExecutionFile t.now.program (ahead_from 1 bytes.now) x)
-        (IsRefusal t.now.program (ahead_from 1 bytes.now)) }
+        (IsReportRefusal t.now.program (ahead_from 1 bytes.now)) }
     ensures few { IfOk result (λ x. length x ≤ 4000) }
     ensures known { IfOk result (λ x. AreOfProgram t.now.program x) }
 {

@@ -18,7 +18,7 @@ use Rattle.ql_lang.specs.declared.contract.Var.{Var}
 use Rattle.ql_levels.specs.Lists.{LevelLists}
 use Rattle.ql_lang.specs.declared.program.Program.{Program}
 use Rattle.ql_report.specs.JsonRuns.{effects_from}
-use Rattle.ql_report.specs.JsonValues.{id_data, listed}
+use Rattle.ql_report.specs.JsonValues.{id_data, list_data}
 use Rattle.ql_report.proofs.Floats.{HasNone, HaveNone, each_none, neither, run_none}
 use Rattle.ql_why.specs.Why.{object_names, vars_of}
 use Rattle.ql_warnings.specs.declared.warning.Warning.{Warning}
@@ -30,13 +30,13 @@ first false b e = refl
 first true b e = e
 
 -- an execution is part of a run, which has none
-execution_none : (p : Program) (x : List Effect) → HasNone (listed (effects_from p object_names 1 x))
+execution_none : (p : Program) (x : List Effect) → HasNone (list_data (effects_from p object_names 1 x))
 execution_none p x =
     let levels : LevelLists = record { ops = []; txns = [] } in
-    first (has_float (listed (effects_from p object_names 1 x))) _ (run_none p object_names levels [] x)
+    first (has_float (list_data (effects_from p object_names 1 x))) _ (run_none p object_names levels [] x)
 
 fact_none : (fact : Fact) → HasNone (fact_data fact)
-fact_none fact = neither (has_float (listed (map id_data (claim_effects fact.claim)))) false (each_none id_data (λ n. refl) (claim_effects fact.claim)) refl
+fact_none fact = neither (has_float (list_data (map id_data (claim_effects fact.claim)))) false (each_none id_data (λ n. refl) (claim_effects fact.claim)) refl
 
 at_none : (here : At) → HasNone (at_data here)
 at_none (at.Effect id) = refl
@@ -61,13 +61,13 @@ warning_none p w = neither (has_float (warning_place_data w)) false (place_none 
 counter_none : (p : Program) (g : Goal) (c : Counter) (facts : List Fact) (ws : List Warning) → HasNone (counter_data p g c facts ws)
 counter_none p g c facts ws =
     let warned : Bool = has_float (warnings_data p ws) || false in
-    let variables : Bool = has_float (listed (variables_data (vars_of p g) (numbers c.places))) || warned in
-    let told : Bool = has_float (listed (map fact_data facts)) || variables in
-    let execution : Bool = has_float (listed (effects_from p object_names 1 c.execution)) || told in
+    let variables : Bool = has_float (list_data (variables_data (vars_of p g) (numbers c.places))) || warned in
+    let told : Bool = has_float (list_data (map fact_data facts)) || variables in
+    let execution : Bool = has_float (list_data (effects_from p object_names 1 c.execution)) || told in
     neither (has_float (at_data c.at)) execution (at_none c.at)
-    (neither (has_float (listed (effects_from p object_names 1 c.execution))) told (execution_none p c.execution)
-    (neither (has_float (listed (map fact_data facts))) variables (each_none fact_data fact_none facts)
-    (neither (has_float (listed (variables_data (vars_of p g) (numbers c.places)))) warned (variables_none (vars_of p g) (numbers c.places))
+    (neither (has_float (list_data (effects_from p object_names 1 c.execution))) told (execution_none p c.execution)
+    (neither (has_float (list_data (map fact_data facts))) variables (each_none fact_data fact_none facts)
+    (neither (has_float (list_data (variables_data (vars_of p g) (numbers c.places)))) warned (variables_none (vars_of p g) (numbers c.places))
     (neither (has_float (warnings_data p ws)) false (each_none (warning_data p) (warning_none p) ws) refl))))
 
 reason_none : (p : Program) (u : Option Unmet) (reason : Data) → IsShownReason p u reason → HasNone reason
@@ -84,9 +84,9 @@ warnings_none source p g json (ws, are, is) = ap has_float is ∙ each_none (war
 target_none : (source : List ℕ) (p : Program) (f : Finding) (json : Data) → IsTarget source p f json → HasNone json
 target_none source p f json (uses, reason, warnings, are, of, warned, is) =
     let told : Bool = has_float warnings || false in
-    let used : Bool = has_float (listed (map (use_data p) uses)) || told in
+    let used : Bool = has_float (list_data (map (use_data p) uses)) || told in
     ap has_float is ∙ neither (has_float reason) (has_float (least_level_data f) || used) (reason_none p (unmet_of f) reason of)
-    (neither (has_float (least_level_data f)) used (level_none f) (neither (has_float (listed (map (use_data p) uses))) told (each_none (use_data p) (λ o. refl) uses)
+    (neither (has_float (least_level_data f)) used (level_none f) (neither (has_float (list_data (map (use_data p) uses))) told (each_none (use_data p) (λ o. refl) uses)
     (neither (has_float warnings) false (warnings_none source p (goal_of_finding f) warnings warned) refl)))
 
 pub targets_none : (source : List ℕ) (p : Program) (findings : List Finding) (targets : List Data) → AreTargets source p findings targets → HaveNone targets

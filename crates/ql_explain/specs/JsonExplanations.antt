@@ -23,7 +23,7 @@ use Rattle.ql_lang.specs.Spelling.{relation_word}
 use Rattle.ql_lang.specs.declared.contract.Var.{Var}
 use Rattle.ql_lang.specs.declared.program.Program.{Program}
 use Rattle.ql_report.specs.JsonRuns.{effects_from}
-use Rattle.ql_report.specs.JsonValues.{id_data, listed, text_data}
+use Rattle.ql_report.specs.JsonValues.{id_data, list_data, text_data}
 use Rattle.ql_typing.specs.Names.{op_name, txn_name}
 use Rattle.ql_explain.specs.declared.json_counter.Shown.{Shown}
 use Rattle.ql_why.specs.Why.{level_text, object_names, vars_of}
@@ -51,14 +51,14 @@ claim_effects (OneTxn a b) = a.0 ∷ b.0 ∷ []
 abbrev pub fact_data : Fact → Data
 fact_data fact =
     object (member (codes "claim") (text_data (claim_text fact.claim))
-    (member (codes "effects") (listed (map id_data (claim_effects fact.claim)))
+    (member (codes "effects") (list_data (map id_data (claim_effects fact.claim)))
     (member (codes "holds") (boolean fact.holds) no_members)))
 
 -- ---- warnings
 
 -- a position in the source, as [line,column], both from 1
 abbrev pub place_data : Place → Data
-place_data place = listed (id_data place.line ∷ id_data place.column ∷ [])
+place_data place = list_data (id_data place.line ∷ id_data place.column ∷ [])
 
 -- the position that a warning is about, if it has one
 abbrev pub warning_place_data : Warning → Data
@@ -76,7 +76,7 @@ warning_data p w =
     (member (codes "text") (text_data (warning_text p w)) no_members)))
 
 abbrev pub warnings_data : Program → List Warning → Data
-warnings_data p ws = listed (map (warning_data p) ws)
+warnings_data p ws = list_data (map (warning_data p) ws)
 
 -- warnings of a target's contract
 abbrev pub IsWarningsData : List ℕ → Program → Goal → Data → Type 0
@@ -91,7 +91,7 @@ at_data (at.Run run) = id_data run.0
 
 -- a variable with the id of its effect, as ["a",1]
 abbrev pub variable_data : List ℕ → ℕ → Data
-variable_data name id = listed (text_data name ∷ id_data id ∷ [])
+variable_data name id = list_data (text_data name ∷ id_data id ∷ [])
 
 abbrev pub variables_data : List Var → List ℕ → List Data
 variables_data [] ids = []
@@ -102,10 +102,10 @@ variables_data (var ∷ vars) (id ∷ ids) = variable_data var.name.word id ∷ 
 abbrev pub counter_data : Program → Goal → Counter → List Fact → List Warning → Data
 counter_data p g c facts ws =
     object (member (codes "at") (at_data c.at)
-    (member (codes "execution") (listed (effects_from p object_names 1 c.execution))
-    (member (codes "facts") (listed (map fact_data facts))
+    (member (codes "execution") (list_data (effects_from p object_names 1 c.execution))
+    (member (codes "facts") (list_data (map fact_data facts))
     (member (codes "level") (text_data (level_text g))
-    (member (codes "variables") (listed (variables_data (vars_of p g) (numbers c.places)))
+    (member (codes "variables") (list_data (variables_data (vars_of p g) (numbers c.places)))
     (member (codes "warnings") (warnings_data p ws) no_members))))))
 
 -- a countermodel of the goal, with facts that are true of it and warnings that are so of it
@@ -145,7 +145,7 @@ target_data p f uses reason warnings =
     (member (codes "kind") (text_data (goal_kind_text (goal_of_finding f)))
     (member (codes "level") (least_level_data f)
     (member (codes "name") (text_data (name_text p (goal_of_finding f)))
-    (member (codes "uses_strong") (listed (map (use_data p) uses))
+    (member (codes "uses_strong") (list_data (map (use_data p) uses))
     (member (codes "warnings") warnings no_members))))))
 
 abbrev pub IsTarget : List ℕ → Program → Finding → Data → Type 0
@@ -159,7 +159,7 @@ AreTargets source p findings targets = AllZip (IsTarget source p) findings targe
 -- ---- the whole
 
 abbrev pub explanation_data : List Data → Data
-explanation_data targets = object (member (codes "targets") (listed targets) no_members)
+explanation_data targets = object (member (codes "targets") (list_data targets) no_members)
 
 abbrev pub explanation_json : List Data → List ℕ
 explanation_json targets = compact_text (explanation_data targets) ++ codes "\n"

@@ -8,7 +8,7 @@ ghost use Rattle.ql_warnings.specs.Warnings.{AreFindings};
 ghost use Rattle.ql_explanation.specs.Explanation.{unmet_of};
 ghost use Rattle.ql_ground.specs.OfPrograms.{IsGoalOf};
 ghost use Rattle.ql_report.specs.JsonRuns.{effects_from};
-ghost use Rattle.ql_report.specs.JsonValues.{listed, text_data};
+ghost use Rattle.ql_report.specs.JsonValues.{list_data, text_data};
 ghost use Rattle.ql_report.specs.EffectTexts.{AreNamed};
 ghost use Rattle.ql_why.specs.Why.{level_text, object_names};
 ghost use Rattle.ql_why.specs.Why as why;
@@ -117,7 +117,7 @@ fn put_execution(
 ) -> Result<(), NoMemory>
     requires { AreNamed t.now.program 7 c.now.execution }
     ensures { OnOk result (members_view members.new.entries ≡
-        with_member (codes "execution") (listed (effects_from t.now.program object_names 1 c.now.execution))
+        with_member (codes "execution") (list_data (effects_from t.now.program object_names 1 c.now.execution))
         (with_member (codes "at") (at_data c.now.at) (members_view members.old.entries))) }
 {
     let objects = object_names(alloc)?;
@@ -142,9 +142,9 @@ fn put_breach(
 ) -> Result<(), NoMemory>
     requires { IsGoalOf t.now.program g }
     ensures { OnOk result (members_view members.new.entries ≡
-        with_member (codes "variables") (listed (variables_data (why.vars_of t.now.program g) (numbers c.now.places)))
+        with_member (codes "variables") (list_data (variables_data (why.vars_of t.now.program g) (numbers c.now.places)))
         (with_member (codes "level") (text_data (level_text g))
-        (with_member (codes "facts") (listed (map fact_data facts.now))
+        (with_member (codes "facts") (list_data (map fact_data facts.now))
         (members_view members.old.entries)))) }
 {
     put(members, alloc, "facts", facts_value(alloc, facts)?)?;
@@ -175,7 +175,7 @@ fn at_value(at: At) -> Json
 // Each variable with the id of its effect.
 fn variables(alloc: Global, vars: &[Var], places: &[EffId]) -> Result<Json, NoMemory>
     ensures { IfOk result
-        (λ json. view json ≡ listed (variables_data vars.now (numbers places.now))) }
+        (λ json. view json ≡ list_data (variables_data vars.now (numbers places.now))) }
 {
     let mut list = Vec::new(alloc);
     push_variables(alloc, &mut list, vars, places)?;

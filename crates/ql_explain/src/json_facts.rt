@@ -1,7 +1,7 @@
 // Facts as JSON.
 ghost use Rattle.std.specs.Prelude.{◌≡◌, IfOk, map};
 ghost use Rattle.serde_json.specs.View.{view};
-ghost use Rattle.ql_report.specs.JsonValues.{id_data, listed};
+ghost use Rattle.ql_report.specs.JsonValues.{id_data, list_data};
 ghost use Rattle.ql_lang.specs.Spelling.{relation_word};
 ghost use Rattle.ql_explain.specs.JsonExplanations.{claim_effects, claim_text, fact_data};
 
@@ -14,7 +14,7 @@ use std::alloc::Global;
 
 /// Facts in order.
 pub(crate) fn facts(alloc: Global, facts: &[Fact]) -> Result<Json, NoMemory>
-    ensures { IfOk result (λ json. view json ≡ listed (map fact_data facts.now)) }
+    ensures { IfOk result (λ json. view json ≡ list_data (map fact_data facts.now)) }
 {
     let mut list = Vec::with_capacity(alloc, facts.len())?;
     for k in 0..facts.len() {
@@ -70,7 +70,7 @@ fn relation_word(name: RelName) -> &'static str
 
 // The effects that a claim is about.
 fn effects_of(alloc: Global, claim: Claim) -> Result<Json, NoMemory>
-    ensures { IfOk result (λ json. view json ≡ listed (map id_data (claim_effects claim))) }
+    ensures { IfOk result (λ json. view json ≡ list_data (map id_data (claim_effects claim))) }
 {
     match claim {
         Claim::Related(_, first, second) => ids(alloc, &[first.0, second.0]),

@@ -7,7 +7,7 @@ ghost use Rattle.ql_classify.specs.Finding.{IsFinding};
 ghost use Rattle.ql_warnings.specs.Warnings.{AreFindings};
 ghost use Rattle.ql_explanation.specs.Explanation.{goal_of_finding};
 ghost use Rattle.ql_ground.specs.OfPrograms.{IsGoalOf};
-ghost use Rattle.ql_report.specs.JsonValues.{listed, text_data};
+ghost use Rattle.ql_report.specs.JsonValues.{list_data, text_data};
 ghost use Rattle.ql_typing.specs.Operations.{all_ops};
 ghost use Rattle.ql_explain.specs.JsonExplanations.{IsReasonData, IsTarget, goal_kind_text, least_level_data, name_text, target_data, use_data};
 
@@ -125,7 +125,7 @@ fn level(alloc: Global, finding: &Finding) -> Result<Json, NoMemory>
 // The names of operations.
 fn uses_value(alloc: Global, t: &Typed, uses: &[OpId]) -> Result<Json, NoMemory>
     requires { All (λ o. o.0 < length (all_ops t.now.program.types)) uses.now }
-    ensures { IfOk result (λ json. view json ≡ listed (map (use_data t.now.program) uses.now)) }
+    ensures { IfOk result (λ json. view json ≡ list_data (map (use_data t.now.program) uses.now)) }
 {
     let mut list = Vec::with_capacity(alloc, uses.len())?;
     for k in 0..uses.len() {

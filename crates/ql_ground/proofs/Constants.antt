@@ -1,7 +1,7 @@
 -- The terms of a contract are constants of its problem.
 use Rattle.std.proofs.Common.{◌≡◌, refl, ℕ, zero, suc, length, get_or, ◌<◌, Bool, true, false, List, [], ◌∷◌, arith}
 use Rattle.std.proofs.lemmas.Bool.{both_ways}
-use Rattle.ql_atoms.specs.Atoms.{Size, count_of}
+use Rattle.ql_atoms.specs.Atoms.{Size, atom_count}
 use Rattle.ql_cnf.specs.Circuits.{InputsInRange}
 use Rattle.ql_lang.specs.Formulas.{Statement, Always, Related, BothOf, OneOf, IfThen, InOneTxn}
 use Rattle.ql_lang.specs.declared.formula.Term.{Term}
@@ -40,8 +40,8 @@ op_over s n e p h = over s n true (op_term s n e) p h
 pub txn_over : (s : Size) (n : ℕ) → s.constants ≡ n → (p : Statement) → IsBodyOf n false p → OverConstants s p
 txn_over s n e p h = over s n false (txn_term s n e) p h
 
-pub op_inputs : (s : Size) (n : ℕ) → s.constants ≡ suc n → (p : Statement) → IsBodyOf n true p → InputsInRange (count_of s) (body_circuit s p)
+pub op_inputs : (s : Size) (n : ℕ) → s.constants ≡ suc n → (p : Statement) → IsBodyOf n true p → InputsInRange (atom_count s) (body_circuit s p)
 op_inputs s n e p h = body-in s n true (op_term s n e) p h
 
-pub txn_inputs : (s : Size) (n : ℕ) → s.constants ≡ n → (p : Statement) → IsBodyOf n false p → InputsInRange (count_of s) (body_circuit s p)
+pub txn_inputs : (s : Size) (n : ℕ) → s.constants ≡ n → (p : Statement) → IsBodyOf n false p → InputsInRange (atom_count s) (body_circuit s p)
 txn_inputs s n e p h = body-in s n false (txn_term s n e) p h

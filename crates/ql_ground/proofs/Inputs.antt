@@ -3,7 +3,7 @@ use Rattle.std.proofs.Common.{ℕ, ◌<◌, Bool, List, [], ◌∷◌, ◌++◌,
 use Rattle.ql_atoms.specs.declared.atoms.Atom.{Atom}
 use Rattle.ql_atoms.specs.declared.atoms.Atom.TheVariants.{Pair, Current}
 use Rattle.ql_atoms.specs.declared.atoms.PairKind.TheVariants as kind
-use Rattle.ql_atoms.specs.Atoms.{Size, Fits, count_of}
+use Rattle.ql_atoms.specs.Atoms.{Size, Fits, atom_count}
 use Rattle.ql_atoms.proofs.Numbers.{counted}
 use Rattle.ql_cnf.specs.Circuits.{Circuit, Both, InputsInRange}
 use Rattle.ql_lang.specs.Trees.{Relation, Basic, Union, Intersection}
@@ -16,7 +16,7 @@ use Rattle.ql_ground.specs.Bodies.{constant_of, holds, fails, named_circuit, rel
 
 module _ (s : Size) where
   abbrev In : Circuit → Type 0
-  In g = InputsInRange (count_of s) g
+  In g = InputsInRange (atom_count s) g
 
   holds-in : (a : Atom) → Fits s a → In (holds s a)
   holds-in a f = (omega arith, counted s a f)

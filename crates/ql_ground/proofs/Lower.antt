@@ -9,7 +9,7 @@ use Rattle.ql_atoms.specs.declared.atoms.Atom.{Atom}
 use Rattle.ql_atoms.specs.declared.atoms.Atom.TheVariants.{Pair, Is}
 use Rattle.ql_atoms.specs.declared.atoms.PairKind.{PairKind}
 use Rattle.ql_atoms.specs.declared.atoms.PairKind.TheVariants.{Eq, SameObj, Vis, Hbo, Hb}
-use Rattle.ql_atoms.specs.Atoms.{Size, number_of, count_of}
+use Rattle.ql_atoms.specs.Atoms.{Size, number_of, atom_count}
 use Rattle.ql_cnf.specs.declared.lit.Lit.{Lit}
 use Rattle.ql_cnf.specs.Circuits.{yes, no, denying}
 use Rattle.ql_cnf.specs.Satisfaction.{variable_value, literal_true, clause_true}
@@ -280,13 +280,13 @@ module _ (a : List Bool) (s : Size) where
 op_gives : (higher lower : Level) → ((a : List Bool) (s : Size) → Given a s → All a s (instances s (level_rule higher)) → All a s (instances s (level_rule lower))) → GivesLevel higher lower
 op_gives higher lower g types o f a h =
     let s : Size = op_size types f in
-    let body : List (List Lit) = denying (count_of s) (body_circuit s f.body) in
+    let body : List (List Lit) = denying (atom_count s) (body_circuit s f.body) in
     (h.0, all_true-clauses_of a (op_ground types o lower f ++ body) ∙ lower_op a s types o f.vars body higher lower (g a s) (sym (all_true-clauses_of a (op_ground types o higher f ++ body)) ∙ h.1))
 
 txn_gives : (higher lower : TxnLevel) → ((a : List Bool) (s : Size) → Given a s → All a s (all_instances s (txn_level_rules higher)) → All a s (all_instances s (txn_level_rules lower))) → GivesTxnLevel higher lower
 txn_gives higher lower g types f a h =
     let s : Size = txn_size types f in
-    let body : List (List Lit) = denying (count_of s) (body_circuit s f.body) in
+    let body : List (List Lit) = denying (atom_count s) (body_circuit s f.body) in
     (h.0, all_true-clauses_of a (txn_ground types lower f ++ body) ∙ lower_txn a s types f.vars body higher lower (g a s) (sym (all_true-clauses_of a (txn_ground types higher f ++ body)) ∙ h.1))
 
 pub strong_gives_wide : GivesLevel Strong Wide

@@ -1,6 +1,6 @@
 -- What the clauses of a problem are, and that they are sound.
 use Rattle.std.proofs.Common.{◌≡◌, ℕ, ◌+◌, List, [], ◌++◌, true, false, sym, subst, ◌∙◌, ap}
-use Rattle.ql_atoms.specs.Atoms.{Size, count_of}
+use Rattle.ql_atoms.specs.Atoms.{Size, atom_count}
 use Rattle.ql_cnf.specs.declared.lit.Lit.{Lit}
 use Rattle.ql_cnf.specs.Circuits.{gates, denying, clauses_of}
 use Rattle.ql_cnf.specs.Satisfaction.{ClauseList, IsUnsatisfiable}
@@ -23,19 +23,19 @@ list n clauses = record { variables = n; clauses = clauses }
 -- the groups' clauses, and then the body's
 abbrev Are : Size → (Size → List (List Lit)) → Resolved → List (List Lit) → ClauseList → Type 0
 Are s lists f mid new =
-    (mid ≡ clauses_of (lists s)) × (new.variables ≡ count_of s + gates (body_circuit s f.body))
-    × (new.clauses ≡ mid ++ clauses_of (denying (count_of s) (body_circuit s f.body)))
+    (mid ≡ clauses_of (lists s)) × (new.variables ≡ atom_count s + gates (body_circuit s f.body))
+    × (new.clauses ≡ mid ++ clauses_of (denying (atom_count s) (body_circuit s f.body)))
 
 done : (s : Size) (lists : Size → List (List Lit)) (f : Resolved) (mid : List (List Lit)) (new : ClauseList) → Are s lists f mid new → new ≡ problem_of s (lists s) f
 done s lists f mid new h =
     ap (λ n. list n new.clauses) h.1
-    ∙ ap (λ cs. list (count_of s + gates (body_circuit s f.body)) cs) (then [] mid new.clauses (lists s) (denying (count_of s) (body_circuit s f.body)) h.0 h.2)
+    ∙ ap (λ cs. list (atom_count s + gates (body_circuit s f.body)) cs) (then [] mid new.clauses (lists s) (denying (atom_count s) (body_circuit s f.body)) h.0 h.2)
 
-pub op_done : (types : List ℕ) (o : ℕ) (level : Level) (f : Resolved) (s : Size) (mid : List (List Lit)) (new : ClauseList) → s ≡ op_size types f → mid ≡ clauses_of (op_groups types o level f.vars s) → new.variables ≡ count_of s + gates (body_circuit s f.body) → new.clauses ≡ mid ++ clauses_of (denying (count_of s) (body_circuit s f.body)) → new ≡ op_problem types o level f
+pub op_done : (types : List ℕ) (o : ℕ) (level : Level) (f : Resolved) (s : Size) (mid : List (List Lit)) (new : ClauseList) → s ≡ op_size types f → mid ≡ clauses_of (op_groups types o level f.vars s) → new.variables ≡ atom_count s + gates (body_circuit s f.body) → new.clauses ≡ mid ++ clauses_of (denying (atom_count s) (body_circuit s f.body)) → new ≡ op_problem types o level f
 op_done types o level f s mid new e h v g =
     done (op_size types f) (op_groups types o level f.vars) f mid new (subst (λ z. Are z (op_groups types o level f.vars) f mid new) e (h, v, g))
 
-pub txn_done : (types : List ℕ) (level : TxnLevel) (f : Resolved) (s : Size) (mid : List (List Lit)) (new : ClauseList) → s ≡ txn_size types f → mid ≡ clauses_of (txn_groups types level f.vars s) → new.variables ≡ count_of s + gates (body_circuit s f.body) → new.clauses ≡ mid ++ clauses_of (denying (count_of s) (body_circuit s f.body)) → new ≡ txn_problem types level f
+pub txn_done : (types : List ℕ) (level : TxnLevel) (f : Resolved) (s : Size) (mid : List (List Lit)) (new : ClauseList) → s ≡ txn_size types f → mid ≡ clauses_of (txn_groups types level f.vars s) → new.variables ≡ atom_count s + gates (body_circuit s f.body) → new.clauses ≡ mid ++ clauses_of (denying (atom_count s) (body_circuit s f.body)) → new ≡ txn_problem types level f
 txn_done types level f s mid new e h v g =
     done (txn_size types f) (txn_groups types level f.vars) f mid new (subst (λ z. Are z (txn_groups types level f.vars) f mid new) e (h, v, g))
 

@@ -5,7 +5,7 @@ use Rattle.std.proofs.lemmas.Nat.{mul-add-lt}
 use Rattle.ql_atoms.specs.declared.atoms.Atom.{Atom}
 use Rattle.ql_atoms.specs.declared.atoms.Atom.TheVariants.{Pair, Current, Is}
 use Rattle.ql_atoms.specs.declared.atoms.PairKind.{PairKind}
-use Rattle.ql_atoms.specs.Atoms.{Size, Fits, kind_place, atom_place, number_of, count_of, relations_of}
+use Rattle.ql_atoms.specs.Atoms.{Size, Fits, kind_place, atom_place, number_of, atom_count, relations_of}
 use Rattle.ql_atoms.proofs.Numbers.{counted, few_kinds, kind_at, kind_at-place}
 use Rattle.ql_cnf.specs.Satisfaction.{variable_value}
 use Rattle.ql_base.specs.Ranges.{upto}
@@ -54,7 +54,7 @@ module _ (s : Size) (t : Atom → Bool) where
   unfolding operations
   length-operations = length-cells (λ o i. t (Is (op o) i)) s.operations s.constants
 
-  pub length-read_off : length read_off ≡ count_of s
+  pub length-read_off : length read_off ≡ atom_count s
   unfolding read_off
   length-read_off = omega (arith, length-append (relations ++ currents) operations, length-append relations currents, length-relations, length-currents, length-operations)
 

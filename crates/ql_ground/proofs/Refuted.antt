@@ -7,7 +7,7 @@ use Rattle.std.specs.Prelude.{slice_index}
 use Rattle.std.specs.List.{list_all, list_any}
 use Rattle.ql_atoms.specs.declared.atoms.Atom.{Atom}
 use Rattle.ql_atoms.specs.declared.atoms.Atom.TheVariants.{Is}
-use Rattle.ql_atoms.specs.Atoms.{Size, count_of}
+use Rattle.ql_atoms.specs.Atoms.{Size, atom_count}
 use Rattle.ql_cnf.specs.declared.lit.Lit.{Lit}
 use Rattle.ql_cnf.specs.Circuits.{circuit_true, InputsInRange, gates, gate_values, denying, clauses_of}
 use Rattle.ql_cnf.specs.Satisfaction.{ClauseList, Satisfies, IsUnsatisfiable, clause_true}
@@ -45,10 +45,10 @@ pub record Assignment (p : ClauseList) (s : Size) (t : Atom → Bool) : Type 0 w
   pub reads : ReadsOff values s t
 
 -- lists that are true in the assignment that is read off, and a body that is false in it
-satisfied : (s : Size) (t : Atom → Bool) (lists : List (List Lit)) (f : Resolved) → InputsInRange (count_of s) (body_circuit s f.body) → circuit_true (read_off s t) (body_circuit s f.body) ≡ false → ((more : List Bool) → list_all (clause_true (read_off s t ++ more)) lists ≡ true) → Assignment (problem_of s lists f) s t
+satisfied : (s : Size) (t : Atom → Bool) (lists : List (List Lit)) (f : Resolved) → InputsInRange (atom_count s) (body_circuit s f.body) → circuit_true (read_off s t) (body_circuit s f.body) ≡ false → ((more : List Bool) → list_all (clause_true (read_off s t ++ more)) lists ≡ true) → Assignment (problem_of s lists f) s t
 satisfied s t lists f inputs no_value holds =
     let g = body_circuit s f.body in
-    let k : ℕ = count_of s in
+    let k : ℕ = atom_count s in
     let v : List Bool = read_off s t in
     let old : ClauseList = record { variables = k; clauses = [] } in
     let new : ClauseList = record { variables = k + gates g; clauses = clauses_of (denying k g) } in
@@ -158,7 +158,7 @@ op_satisfied types o level f contract x law fits cur is_cur holds places chosen 
     let t : Atom → Bool = λ a. atom_true x none effects a in
     let k = op_constants x f.vars places o cur chosen is_cur in
     let terms : (u : Term) → IsTermOf n true u → (constant_of s u < suc n) × (slice_index effects (constant_of s u) ≡ place_of places cur u) = op_terms n effects places cur s refl k.last k.same in
-    let inputs : InputsInRange (count_of s) (body_circuit s f.body) = body-in s n true (λ u h. (terms u h).0) f.body contract.body in
+    let inputs : InputsInRange (atom_count s) (body_circuit s f.body) = body-in s n true (λ u h. (terms u h).0) f.body contract.body in
     let value : circuit_true (read_off s t) (body_circuit s f.body) ≡ statement_true x none places cur f.body = body-true x none (none-closed x) effects s (read_off s t) (reads_off-alone s t) n true places cur terms f.body contract.body in
     satisfied s t (op_ground types o level f) f inputs (value ∙ broken)
     (λ more. op_ground-true x law types fits effects s refl k.there o level cur (omega arith) k.last is_cur holds f.vars places contract.vars chosen (omega arith) k.same (read_off s t ++ more) (reads_off s t more))
@@ -213,7 +213,7 @@ txn_satisfied types level f contract x law fits run holds places chosen broken =
     let t : Atom → Bool = λ a. atom_true x (inside x run) places a in
     let there : (i : ℕ) → i < n → (e : Effect) × (effect_at x (slice_index places i) ≡ Some e) = chosen-effect x f.vars places chosen in
     let terms : (u : Term) → IsTermOf n false u → (constant_of s u < n) × (slice_index places (constant_of s u) ≡ place_of places 0 u) = txn_terms n places s refl in
-    let inputs : InputsInRange (count_of s) (body_circuit s f.body) = body-in s n false (λ u h. (terms u h).0) f.body contract.body in
+    let inputs : InputsInRange (atom_count s) (body_circuit s f.body) = body-in s n false (λ u h. (terms u h).0) f.body contract.body in
     let value : circuit_true (read_off s t) (body_circuit s f.body) ≡ statement_true x (inside x run) places 0 f.body = body-true x (inside x run) (inside-closed x run) places s (read_off s t) (reads_off-alone s t) n false places 0 terms f.body contract.body in
     satisfied s t (txn_ground types level f) f inputs (value ∙ broken)
     (λ more. txn_ground-true x law types fits places s refl there level run holds f.vars contract.vars chosen (omega arith) (read_off s t ++ more) (reads_off s t more))

@@ -7,7 +7,7 @@ use Rattle.ql_base.specs.Ids.{op}
 use Rattle.ql_atoms.specs.declared.atoms.Atom.{Atom}
 use Rattle.ql_atoms.specs.declared.atoms.Atom.TheVariants.{Pair, Current, Is}
 use Rattle.ql_atoms.specs.declared.atoms.PairKind.TheVariants.{SameObj}
-use Rattle.ql_atoms.specs.Atoms.{Size, number_of, count_of}
+use Rattle.ql_atoms.specs.Atoms.{Size, number_of, atom_count}
 use Rattle.ql_cnf.specs.declared.lit.Lit.{Lit}
 use Rattle.ql_cnf.specs.Circuits.{yes, no, denying, clauses_of, gates}
 use Rattle.ql_cnf.specs.Satisfaction.{ClauseList}
@@ -108,7 +108,7 @@ txn_ground types level f =
 -- the problem of clauses over s, and of the body that they deny
 abbrev pub problem_of : Size → List (List Lit) → Resolved → ClauseList
 problem_of s lists f =
-    record { variables = count_of s + gates (body_circuit s f.body); clauses = clauses_of (lists ++ denying (count_of s) (body_circuit s f.body)) }
+    record { variables = atom_count s + gates (body_circuit s f.body); clauses = clauses_of (lists ++ denying (atom_count s) (body_circuit s f.body)) }
 
 -- the problem of an operation at a level, and of a declared transaction
 abbrev pub op_problem : List ℕ → ℕ → Level → Resolved → ClauseList

@@ -1,5 +1,5 @@
 ghost use Rattle.std.specs.Prelude.{◌≡◌, ◌+◌, ◌*◌, ◌^◌, ◌<◌, ◌≤◌, ◌++◌, length, map, OnOk};
-ghost use Rattle.ql_atoms.specs.Atoms.{size_of, count_of};
+ghost use Rattle.ql_atoms.specs.Atoms.{size_of, atom_count};
 ghost use Rattle.ql_cnf.specs.Circuits.{clauses_of};
 ghost use Rattle.ql_ground.specs.Ground.{instances, all_instances};
 ghost use Rattle.ql_ground.specs.Parts.{axiom_of, transaction_axiom_of};
@@ -56,7 +56,7 @@ pub(crate) fn add_axioms(
     s: Shape,
     c: &mut Clauses,
 ) -> Result<(), NoMemory>
-    requires variables { c.old.variables ≡ count_of (size_of s) }
+    requires variables { c.old.variables ≡ atom_count (size_of s) }
     ensures variables { c.new.variables ≡ c.old.variables }
     ensures clauses { OnOk result
         (c.new.clauses ≡ c.old.clauses
@@ -75,7 +75,7 @@ pub(crate) fn add_axiom(
     s: Shape,
     c: &mut Clauses,
 ) -> Result<(), NoMemory>
-    requires variables { c.old.variables ≡ count_of (size_of s) }
+    requires variables { c.old.variables ≡ atom_count (size_of s) }
     ensures variables { c.new.variables ≡ c.old.variables }
     ensures clauses { OnOk result
         (c.new.clauses ≡ c.old.clauses ++ clauses_of (instances (size_of s) (axiom_of name))) }
@@ -128,7 +128,7 @@ fn add_transaction_axiom(
     s: Shape,
     c: &mut Clauses,
 ) -> Result<(), NoMemory>
-    requires variables { c.old.variables ≡ count_of (size_of s) }
+    requires variables { c.old.variables ≡ atom_count (size_of s) }
     ensures variables { c.new.variables ≡ c.old.variables }
     ensures clauses { OnOk result
         (c.new.clauses ≡ c.old.clauses

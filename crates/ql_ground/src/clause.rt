@@ -1,5 +1,5 @@
 ghost use Rattle.std.specs.Prelude.{◌≡◌, ◌+◌, ◌^◌, ◌<◌, ◌≤◌, ◌++◌, ◌∷◌, [], length, OnOk};
-ghost use Rattle.ql_atoms.specs.Atoms.{size_of, count_of, Fits};
+ghost use Rattle.ql_atoms.specs.Atoms.{size_of, atom_count, Fits};
 ghost use Rattle.ql_cnf.specs.Circuits.{clauses_of};
 ghost use Rattle.ql_cnf.specs.Satisfaction.{AreInRange};
 ghost use Rattle.ql_ground.specs.Parts.{literal_of};
@@ -12,7 +12,7 @@ use ql_cnf::{Clauses, Lit};
 pub fn literal(a: Atom, positive: bool, s: Shape) -> Lit
     requires { Fits (size_of s) a }
     ensures value { result ≡ literal_of (size_of s) positive a }
-    ensures in_range { (1 ≤ result.var) × (result.var ≤ count_of (size_of s)) }
+    ensures in_range { (1 ≤ result.var) × (result.var ≤ atom_count (size_of s)) }
 {
     Lit {
         var: number(a, s),

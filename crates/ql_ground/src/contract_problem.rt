@@ -1,5 +1,5 @@
 ghost use Rattle.std.specs.Prelude.{◌≡◌, ◌+◌, ◌^◌, ◌<◌, ◌≤◌, ◌++◌, true, false, length, IfOk, OnOk};
-ghost use Rattle.ql_atoms.specs.Atoms.{size_of, count_of};
+ghost use Rattle.ql_atoms.specs.Atoms.{size_of, atom_count};
 ghost use Rattle.ql_cnf.specs.Circuits.{InputsInRange, gates, denying, clauses_of};
 ghost use Rattle.ql_cnf.specs.Satisfaction.{IsUnsatisfiable};
 ghost use Rattle.ql_lang.specs.Formulas.{resolved_of, statement_of};
@@ -78,7 +78,7 @@ pub(crate) fn txn_problem(
 
 // How many atoms a shape has.
 fn atoms(s: Shape) -> u32
-    ensures { result ≡ count_of (size_of s) }
+    ensures { result ≡ atom_count (size_of s) }
 {
     let n = s.constants;
     7 * (n * n) + n + s.operations * n
@@ -87,15 +87,15 @@ fn atoms(s: Shape) -> u32
 // The body is false.
 fn deny(alloc: Global, body: &Body, s: Shape, c: &mut Clauses) -> Result<(), NoMemory>
     requires terms { OverConstants (size_of s) (statement_of body.now) }
-    requires leaves { InputsInRange (count_of (size_of s))
+    requires leaves { InputsInRange (atom_count (size_of s))
         (body_circuit (size_of s) (statement_of body.now)) }
-    requires variables { c.old.variables ≡ count_of (size_of s) }
+    requires variables { c.old.variables ≡ atom_count (size_of s) }
     ensures variables { OnOk result
-        (c.new.variables ≡ count_of (size_of s)
+        (c.new.variables ≡ atom_count (size_of s)
         + gates (body_circuit (size_of s) (statement_of body.now))) }
     ensures clauses { OnOk result
         (c.new.clauses ≡ c.old.clauses
-        ++ clauses_of (denying (count_of (size_of s))
+        ++ clauses_of (denying (atom_count (size_of s))
         (body_circuit (size_of s) (statement_of body.now)))) }
 {
     let circuit = ground_body(alloc, body, s)?;

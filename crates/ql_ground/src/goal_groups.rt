@@ -1,5 +1,5 @@
 ghost use Rattle.std.specs.Prelude.{◌≡◌, ◌+◌, ◌*◌, ◌^◌, ◌<◌, ◌≤◌, ◌++◌, length, OnOk};
-ghost use Rattle.ql_atoms.specs.Atoms.{size_of, count_of};
+ghost use Rattle.ql_atoms.specs.Atoms.{size_of, atom_count};
 ghost use Rattle.ql_cnf.specs.Circuits.{clauses_of};
 ghost use Rattle.ql_typing.specs.WellFormed.{AreChoicesOf};
 ghost use Rattle.ql_ground.specs.Ground as groups;
@@ -35,7 +35,7 @@ pub(crate) fn add_op_groups(
     requires operation { goal.0.0 < s.operations }
     requires choices { AreChoicesOf s.operations variables.now }
     requires few { length variables.now ≤ s.constants }
-    requires variables { c.old.variables ≡ count_of (size_of s) }
+    requires variables { c.old.variables ≡ atom_count (size_of s) }
     ensures variables { c.new.variables ≡ c.old.variables }
     ensures clauses { OnOk result
         (c.new.clauses ≡ c.old.clauses
@@ -62,7 +62,7 @@ pub(crate) fn add_txn_groups(
     requires types { length types.now ≡ s.operations }
     requires choices { AreChoicesOf s.operations variables.now }
     requires few { length variables.now ≤ s.constants }
-    requires variables { c.old.variables ≡ count_of (size_of s) }
+    requires variables { c.old.variables ≡ atom_count (size_of s) }
     ensures variables { c.new.variables ≡ c.old.variables }
     ensures clauses { OnOk result
         (c.new.clauses ≡ c.old.clauses
@@ -85,7 +85,7 @@ fn add_execution_axioms(
     c: &mut Clauses,
 ) -> Result<(), NoMemory>
     requires types { length types.now ≡ s.operations }
-    requires variables { c.old.variables ≡ count_of (size_of s) }
+    requires variables { c.old.variables ≡ atom_count (size_of s) }
     ensures variables { c.new.variables ≡ c.old.variables }
     ensures clauses { OnOk result
         (c.new.clauses ≡ c.old.clauses ++ clauses_of (groups.axioms types.now (size_of s))) }
@@ -98,7 +98,7 @@ fn add_execution_axioms(
 
 // The axioms of executions on session order, objects and happens-before.
 fn add_relations(alloc: Global, s: Shape, c: &mut Clauses) -> Result<(), NoMemory>
-    requires variables { c.old.variables ≡ count_of (size_of s) }
+    requires variables { c.old.variables ≡ atom_count (size_of s) }
     ensures variables { c.new.variables ≡ c.old.variables }
     ensures clauses { OnOk result
         (c.new.clauses ≡ c.old.clauses ++ clauses_of (relation_axioms (size_of s))) }

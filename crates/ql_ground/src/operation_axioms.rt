@@ -1,5 +1,5 @@
 ghost use Rattle.std.specs.Prelude.{◌≡◌, ◌+◌, ◌*◌, ◌^◌, ◌<◌, ◌≤◌, ◌++◌, ◌∷◌, [], length, map, OnOk};
-ghost use Rattle.ql_atoms.specs.Atoms.{size_of, count_of};
+ghost use Rattle.ql_atoms.specs.Atoms.{size_of, atom_count};
 ghost use Rattle.ql_atoms.specs.declared.atoms.Atom.TheVariants.{Is};
 ghost use Rattle.ql_cnf.specs.Circuits.{clauses_of};
 ghost use Rattle.ql_cnf.specs.Satisfaction.{AreInRange};
@@ -21,7 +21,7 @@ use std::alloc::Global;
 
 // Equal effects are of one operation.
 pub(crate) fn add_alike_operations(alloc: Global, s: Shape, c: &mut Clauses) -> Result<(), NoMemory>
-    requires variables { c.old.variables ≡ count_of (size_of s) }
+    requires variables { c.old.variables ≡ atom_count (size_of s) }
     ensures variables { c.new.variables ≡ c.old.variables }
     ensures clauses { OnOk result
         (c.new.clauses ≡ c.old.clauses ++ clauses_of (groups.alike_operations (size_of s))) }
@@ -35,7 +35,7 @@ pub(crate) fn add_alike_operations(alloc: Global, s: Shape, c: &mut Clauses) -> 
 
 // Each effect has an operation.
 pub(crate) fn add_some_operation(alloc: Global, s: Shape, c: &mut Clauses) -> Result<(), NoMemory>
-    requires variables { c.old.variables ≡ count_of (size_of s) }
+    requires variables { c.old.variables ≡ atom_count (size_of s) }
     ensures variables { c.new.variables ≡ c.old.variables }
     ensures clauses { OnOk result
         (c.new.clauses ≡ c.old.clauses ++ clauses_of (groups.some_operation (size_of s))) }
@@ -55,7 +55,7 @@ fn push_operations(i: u32, s: Shape, lits: &mut Vec<Lit>) -> Result<(), NoMemory
     requires constant { i < s.constants }
     ensures lits { OnOk result
         (lits.new.items ≡ implication (size_of s) [] (upto s.operations (λ o. Is (op o) i ∷ []))) }
-    ensures in_range { OnOk result (AreInRange (count_of (size_of s)) lits.new.items) }
+    ensures in_range { OnOk result (AreInRange (atom_count (size_of s)) lits.new.items) }
 {
     for o in 0..s.operations {
         lits.push(literal(Atom::Is(OpId(o), i), true, s))?;
@@ -65,7 +65,7 @@ fn push_operations(i: u32, s: Shape, lits: &mut Vec<Lit>) -> Result<(), NoMemory
 
 // No effect has two operations.
 pub(crate) fn add_one_operation(s: Shape, c: &mut Clauses) -> Result<(), NoMemory>
-    requires variables { c.old.variables ≡ count_of (size_of s) }
+    requires variables { c.old.variables ≡ atom_count (size_of s) }
     ensures variables { c.new.variables ≡ c.old.variables }
     ensures clauses { OnOk result
         (c.new.clauses ≡ c.old.clauses ++ clauses_of (groups.one_operation (size_of s))) }
@@ -78,7 +78,7 @@ pub(crate) fn add_one_operation(s: Shape, c: &mut Clauses) -> Result<(), NoMemor
 
 fn add_one_operation_of(i: u32, s: Shape, c: &mut Clauses) -> Result<(), NoMemory>
     requires constant { i < s.constants }
-    requires variables { c.old.variables ≡ count_of (size_of s) }
+    requires variables { c.old.variables ≡ atom_count (size_of s) }
     ensures variables { c.new.variables ≡ c.old.variables }
     ensures clauses { OnOk result
         (c.new.clauses ≡ c.old.clauses ++ clauses_of (one_operation_of (size_of s) i)) }
@@ -93,7 +93,7 @@ fn add_one_operation_of(i: u32, s: Shape, c: &mut Clauses) -> Result<(), NoMemor
 fn add_not_another(i: u32, o: u32, s: Shape, c: &mut Clauses) -> Result<(), NoMemory>
     requires constant { i < s.constants }
     requires operation { o < s.operations }
-    requires variables { c.old.variables ≡ count_of (size_of s) }
+    requires variables { c.old.variables ≡ atom_count (size_of s) }
     ensures variables { c.new.variables ≡ c.old.variables }
     ensures clauses { OnOk result
         (c.new.clauses ≡ c.old.clauses ++ clauses_of (not_another (size_of s) i o)) }
@@ -108,7 +108,7 @@ fn add_not_another(i: u32, o: u32, s: Shape, c: &mut Clauses) -> Result<(), NoMe
 fn add_not_both(i: u32, o: u32, p: u32, s: Shape, c: &mut Clauses) -> Result<(), NoMemory>
     requires constant { i < s.constants }
     requires operations { (o < s.operations) × (p < s.operations) }
-    requires variables { c.old.variables ≡ count_of (size_of s) }
+    requires variables { c.old.variables ≡ atom_count (size_of s) }
     ensures variables { c.new.variables ≡ c.old.variables }
     ensures clauses { OnOk result
         (c.new.clauses ≡ c.old.clauses ++ clauses_of (not_both (size_of s) i o p)) }
@@ -124,7 +124,7 @@ fn add_not_both(i: u32, o: u32, p: u32, s: Shape, c: &mut Clauses) -> Result<(),
 // Effects on one object have operations of one type; `types` lists the type of each operation.
 pub(crate) fn add_one_type(types: &[u32], s: Shape, c: &mut Clauses) -> Result<(), NoMemory>
     requires types { length types.now ≡ s.operations }
-    requires variables { c.old.variables ≡ count_of (size_of s) }
+    requires variables { c.old.variables ≡ atom_count (size_of s) }
     ensures variables { c.new.variables ≡ c.old.variables }
     ensures clauses { OnOk result
         (c.new.clauses ≡ c.old.clauses ++ clauses_of (groups.one_type types.now (size_of s))) }
@@ -138,7 +138,7 @@ pub(crate) fn add_one_type(types: &[u32], s: Shape, c: &mut Clauses) -> Result<(
 fn add_one_type_from(types: &[u32], i: u32, s: Shape, c: &mut Clauses) -> Result<(), NoMemory>
     requires types { length types.now ≡ s.operations }
     requires constant { i < s.constants }
-    requires variables { c.old.variables ≡ count_of (size_of s) }
+    requires variables { c.old.variables ≡ atom_count (size_of s) }
     ensures variables { c.new.variables ≡ c.old.variables }
     ensures clauses { OnOk result
         (c.new.clauses ≡ c.old.clauses ++ clauses_of (one_type_from types.now (size_of s) i)) }
@@ -158,7 +158,7 @@ fn add_one_type_between(
 ) -> Result<(), NoMemory>
     requires types { length types.now ≡ s.operations }
     requires constants { (i < s.constants) × (j < s.constants) }
-    requires variables { c.old.variables ≡ count_of (size_of s) }
+    requires variables { c.old.variables ≡ atom_count (size_of s) }
     ensures variables { c.new.variables ≡ c.old.variables }
     ensures clauses { OnOk result
         (c.new.clauses ≡ c.old.clauses ++ clauses_of (one_type_between types.now (size_of s) i j)) }
@@ -181,7 +181,7 @@ fn add_other_types(
     requires types { length types.now ≡ s.operations }
     requires constants { (i < s.constants) × (j < s.constants) }
     requires operation { o < s.operations }
-    requires variables { c.old.variables ≡ count_of (size_of s) }
+    requires variables { c.old.variables ≡ atom_count (size_of s) }
     ensures variables { c.new.variables ≡ c.old.variables }
     ensures clauses { OnOk result
         (c.new.clauses ≡ c.old.clauses ++ clauses_of (other_types types.now (size_of s) i j o)) }
@@ -203,7 +203,7 @@ fn add_other_type(
     requires types { length types.now ≡ s.operations }
     requires constants { (effects.0 < s.constants) × (effects.1 < s.constants) }
     requires operations { (operations.0 < s.operations) × (operations.1 < s.operations) }
-    requires variables { c.old.variables ≡ count_of (size_of s) }
+    requires variables { c.old.variables ≡ atom_count (size_of s) }
     ensures variables { c.new.variables ≡ c.old.variables }
     ensures clauses { OnOk result
         (c.new.clauses ≡ c.old.clauses
@@ -225,7 +225,7 @@ fn add_other_type(
 pub(crate) fn add_own_operation(o: OpId, s: Shape, c: &mut Clauses) -> Result<(), NoMemory>
     requires some { 0 < s.constants }
     requires operation { o.0 < s.operations }
-    requires variables { c.old.variables ≡ count_of (size_of s) }
+    requires variables { c.old.variables ≡ atom_count (size_of s) }
     ensures variables { c.new.variables ≡ c.old.variables }
     ensures clauses { OnOk result
         (c.new.clauses ≡ c.old.clauses
@@ -243,7 +243,7 @@ pub(crate) fn add_variables(
     s: Shape,
     c: &mut Clauses,
 ) -> Result<(), NoMemory>
-    requires variables { c.old.variables ≡ count_of (size_of s) }
+    requires variables { c.old.variables ≡ atom_count (size_of s) }
     requires choices { AreChoicesOf s.operations choices.now }
     requires few { first + length choices.now ≤ s.constants }
     ensures variables { c.new.variables ≡ c.old.variables }
@@ -267,7 +267,7 @@ fn add_variable(
     s: Shape,
     c: &mut Clauses,
 ) -> Result<(), NoMemory>
-    requires variables { c.old.variables ≡ count_of (size_of s) }
+    requires variables { c.old.variables ≡ atom_count (size_of s) }
     requires choice { AreChoicesOf s.operations (choice.now ∷ []) }
     requires constant { v < s.constants }
     ensures variables { c.new.variables ≡ c.old.variables }
@@ -292,7 +292,7 @@ fn push_named_operations(ops: &[u32], v: u32, s: Shape, lits: &mut Vec<Lit>) -> 
     requires constant { v < s.constants }
     ensures lits { OnOk result
         (lits.new.items ≡ implication (size_of s) [] (map (λ o. Is (op o) v) ops.now)) }
-    ensures in_range { OnOk result (AreInRange (count_of (size_of s)) lits.new.items) }
+    ensures in_range { OnOk result (AreInRange (atom_count (size_of s)) lits.new.items) }
 {
     for o in ops {
         lits.push(literal(Atom::Is(OpId(*o), v), true, s))?;

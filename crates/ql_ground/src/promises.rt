@@ -1,5 +1,5 @@
 ghost use Rattle.std.specs.Prelude.{◌≡◌, ◌+◌, ◌*◌, ◌^◌, ◌<◌, ◌≤◌, ◌++◌, length, OnOk};
-ghost use Rattle.ql_atoms.specs.Atoms.{size_of, count_of};
+ghost use Rattle.ql_atoms.specs.Atoms.{size_of, atom_count};
 ghost use Rattle.ql_cnf.specs.Circuits.{clauses_of};
 ghost use Rattle.ql_ground.specs.Ground.{instances, all_instances};
 ghost use Rattle.ql_ground.specs.Rules as rules;
@@ -20,7 +20,7 @@ pub(crate) fn add_level(
     s: Shape,
     c: &mut Clauses,
 ) -> Result<(), NoMemory>
-    requires variables { c.old.variables ≡ count_of (size_of s) }
+    requires variables { c.old.variables ≡ atom_count (size_of s) }
     ensures variables { c.new.variables ≡ c.old.variables }
     ensures clauses { OnOk result
         (c.new.clauses ≡ c.old.clauses
@@ -58,7 +58,7 @@ pub(crate) fn add_txn_level(
     s: Shape,
     c: &mut Clauses,
 ) -> Result<(), NoMemory>
-    requires variables { c.old.variables ≡ count_of (size_of s) }
+    requires variables { c.old.variables ≡ atom_count (size_of s) }
     ensures variables { c.new.variables ≡ c.old.variables }
     ensures clauses { OnOk result
         (c.new.clauses ≡ c.old.clauses
@@ -76,7 +76,7 @@ pub(crate) fn add_txn_level(
 
 // An effect that sees one of another transaction sees all effects of that transaction on the object.
 fn add_committed(alloc: Global, s: Shape, c: &mut Clauses) -> Result<(), NoMemory>
-    requires variables { c.old.variables ≡ count_of (size_of s) }
+    requires variables { c.old.variables ≡ atom_count (size_of s) }
     ensures variables { c.new.variables ≡ c.old.variables }
     ensures clauses { OnOk result
         (c.new.clauses ≡ c.old.clauses ++ clauses_of (instances (size_of s) rules.committed_rule)) }
@@ -94,7 +94,7 @@ fn add_committed(alloc: Global, s: Shape, c: &mut Clauses) -> Result<(), NoMemor
 // If an effect sees one of another transaction, the later effects of the current transaction see what that other
 // transaction did on their objects.
 fn add_monotonic(alloc: Global, s: Shape, c: &mut Clauses) -> Result<(), NoMemory>
-    requires variables { c.old.variables ≡ count_of (size_of s) }
+    requires variables { c.old.variables ≡ atom_count (size_of s) }
     ensures variables { c.new.variables ≡ c.old.variables }
     ensures clauses { OnOk result
         (c.new.clauses ≡ c.old.clauses ++ clauses_of (instances (size_of s) rules.monotonic_rule)) }
@@ -114,7 +114,7 @@ fn add_monotonic(alloc: Global, s: Shape, c: &mut Clauses) -> Result<(), NoMemor
 // If an effect sees one of another transaction, all effects of the current transaction see what that other
 // transaction did on their objects.
 fn add_repeatable(alloc: Global, s: Shape, c: &mut Clauses) -> Result<(), NoMemory>
-    requires variables { c.old.variables ≡ count_of (size_of s) }
+    requires variables { c.old.variables ≡ atom_count (size_of s) }
     ensures variables { c.new.variables ≡ c.old.variables }
     ensures clauses { OnOk result
         (c.new.clauses ≡ c.old.clauses

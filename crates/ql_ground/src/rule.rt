@@ -1,6 +1,6 @@
 ghost use Rattle.std.specs.Prelude.{◌≡◌, ◌+◌, ◌-◌, ◌*◌, ◌^◌, ◌<◌, ◌≤◌, ◌++◌, length, take, map, OnOk};
 ghost use Rattle.std.specs.List.{All};
-ghost use Rattle.ql_atoms.specs.Atoms.{size_of, count_of, Fits};
+ghost use Rattle.ql_atoms.specs.Atoms.{size_of, atom_count, Fits};
 ghost use Rattle.ql_cnf.specs.Circuits.{clauses_of};
 ghost use Rattle.ql_cnf.specs.Satisfaction.{AreInRange};
 ghost use Rattle.ql_ground.specs.Ground.{at, choices, instances};
@@ -100,11 +100,11 @@ fn push_literals(
     requires some { 0 < s.constants }
     requires chosen { All (λ k. k < s.constants) chosen.now }
     requires atoms { All (IsRuleAtom (size_of s)) atoms.now }
-    requires in_range { AreInRange (count_of (size_of s)) lits.old.items }
+    requires in_range { AreInRange (atom_count (size_of s)) lits.old.items }
     ensures lits { OnOk result
         (lits.new.items ≡ lits.old.items
         ++ map (literal_of (size_of s) positive) (map (at (size_of s) chosen.now) atoms.now)) }
-    ensures in_range { OnOk result (AreInRange (count_of (size_of s)) lits.new.items) }
+    ensures in_range { OnOk result (AreInRange (atom_count (size_of s)) lits.new.items) }
 {
     for a in atoms {
         lits.push(literal(at_chosen(*a, chosen, s), positive, s))?;
@@ -125,7 +125,7 @@ pub fn add_instance(
     requires chosen { All (λ k. k < s.constants) chosen.now }
     requires hypotheses { All (IsRuleAtom (size_of s)) r.now.hypotheses.now }
     requires conclusions { All (IsRuleAtom (size_of s)) r.now.conclusions.now }
-    requires variables { count_of (size_of s) ≤ c.old.variables }
+    requires variables { atom_count (size_of s) ≤ c.old.variables }
     ensures variables { c.new.variables ≡ c.old.variables }
     ensures clauses { OnOk result
         (c.new.clauses ≡ c.old.clauses
@@ -152,7 +152,7 @@ fn add_choices(
     requires chosen { All (λ k. k < s.constants) (take depth chosen) }
     requires hypotheses { All (IsRuleAtom (size_of s)) r.now.hypotheses.now }
     requires conclusions { All (IsRuleAtom (size_of s)) r.now.conclusions.now }
-    requires variables { count_of (size_of s) ≤ c.old.variables }
+    requires variables { atom_count (size_of s) ≤ c.old.variables }
     ensures variables { c.new.variables ≡ c.old.variables }
     ensures clauses { OnOk result
         (c.new.clauses ≡ c.old.clauses
@@ -176,7 +176,7 @@ pub fn add_rule(alloc: Global, r: &Rule<'_>, s: Shape, c: &mut Clauses) -> Resul
     requires places { (0 < r.now.places) × (r.now.places ≤ 4) }
     requires hypotheses { All (IsRuleAtom (size_of s)) r.now.hypotheses.now }
     requires conclusions { All (IsRuleAtom (size_of s)) r.now.conclusions.now }
-    requires variables { count_of (size_of s) ≤ c.old.variables }
+    requires variables { atom_count (size_of s) ≤ c.old.variables }
     ensures variables { c.new.variables ≡ c.old.variables }
     ensures clauses { OnOk result
         (c.new.clauses ≡ c.old.clauses ++ clauses_of (instances (size_of s) (rule_of r.now))) }

@@ -9,7 +9,7 @@ use Rattle.ql_exec.specs.declared.effect.Effect.{Effect}
 use Rattle.ql_exec.specs.declared.fault.ExecFault.{ExecFault}
 use Rattle.ql_exec.specs.declared.fault.ExecFault.TheVariants as exec
 use Rattle.ql_exec.specs.Effects.{effect_at}
-use Rattle.ql_exec.specs.Execution.{IsExecution, fault_of, is_elsewhere, next_id, stamp_of, with_stamp}
+use Rattle.ql_exec.specs.Execution.{IsExecution, draft_fault, is_elsewhere, next_id, stamp_of, with_stamp}
 use Rattle.ql_exec.proofs.Finding.{sametxn_parts, so_parts}
 use Rattle.ql_exec.proofs.Law.{fault_of-None}
 use Rattle.ql_holds_files.specs.declared.effect_line.EffectLine.{EffectLine}
@@ -44,7 +44,7 @@ no_fault true b t f g none = absurd cc
 no_fault false true t f g none = absurd cc
 no_fault false false t f g none = refl
 
-faultless : (named : NamedEffects) (e : EffectLine) → effect_rule named e ≡ None → fault_of named.effects (named_draft named e) ≡ None
+faultless : (named : NamedEffects) (e : EffectLine) → effect_rule named e ≡ None → draft_fault named.effects (named_draft named e) ≡ None
 faultless named e none =
     no_fault (list_any (λ id. is_none (effect_at named.effects id)) e.seen) (list_any (λ id. is_elsewhere (named_draft named e).object (effect_at named.effects id)) e.seen)
     (nat_le MAX_EFFECTS (length named.effects)) (exec.NotForward (next_id named.effects)) (exec.OtherObject (next_id named.effects)) none

@@ -9,12 +9,12 @@ use Rattle.ql_holds_files.specs.declared.holds_fault.HoldsFault.{HoldsFault}
 use Rattle.ql_holds_files.specs.declared.holds_fault.HoldsFault.TheVariants.{NoMemory}
 use Rattle.ql_holds_files.specs.declared.rules.HoldsRule.{HoldsRule}
 use Rattle.ql_holds_files.specs.HoldsFile.{HoldsOutcome}
-use Rattle.ql_holds_files.specs.Rules.{rule_at}
+use Rattle.ql_holds_files.specs.Rules.{holds_rule_at}
 
 abbrev pub asked_of : Holding → Asked
 asked_of h = record { contract = record { formula = resolved_of h.formula; names = h.names }; cur = h.cur; execution = h.execution }
 
 -- a refusal is the first fault, or out of memory
-abbrev pub IsRefusal : Ahead → HoldsFault → Type 0
-IsRefusal file NoMemory = Unit {0}
-IsRefusal file f = (broken : Broken HoldsRule) × HoldsOutcome file (Err broken) × (f ≡ rule_at broken.rule broken.line)
+abbrev pub IsHoldsRefusal : Ahead → HoldsFault → Type 0
+IsHoldsRefusal file NoMemory = Unit {0}
+IsHoldsRefusal file f = (broken : Broken HoldsRule) × HoldsOutcome file (Err broken) × (f ≡ holds_rule_at broken.rule broken.line)

@@ -77,23 +77,23 @@ module _ {L : Type 0} (Is : L → Type 0) (makes : L → Result Stage HoldsRule)
   some_given : ((x : Result Stage HoldsRule) → ExtendsHoldsAs Is makes x → ⊥) → ⊥
   some_given none = none (Err Unexpected) (inr ((λ line is. none (makes line) (inl (line, is, refl))), refl))
 
-pub gives_one : OneContract → (s : Stage) (l : Numbered) (x y : Result Stage HoldsRule) → ExtendsHolds s l x → ExtendsHolds s l y → x ≡ y
-gives_one one Unbegun l x y p q = one_given _ _ (one_contract one l.text) x y p q
-gives_one one (WithContract formula effects) l x y p q = one_given _ _ (one_current (fields_of l.text)) x y p q
-gives_one one (WithEffects formula current effects) l x y p q = one_given _ _ (one_more (suc (length effects.effects)) (fields_of l.text)) x y p q
-gives_one one (Ended formula current effects) l x y p q = p ∙ sym q
+pub holds_gives_once : OneContract → (s : Stage) (l : Numbered) (x y : Result Stage HoldsRule) → ExtendsHolds s l x → ExtendsHolds s l y → x ≡ y
+holds_gives_once one Unbegun l x y p q = one_given _ _ (one_contract one l.text) x y p q
+holds_gives_once one (WithContract formula effects) l x y p q = one_given _ _ (one_current (fields_of l.text)) x y p q
+holds_gives_once one (WithEffects formula current effects) l x y p q = one_given _ _ (one_more (suc (length effects.effects)) (fields_of l.text)) x y p q
+holds_gives_once one (Ended formula current effects) l x y p q = p ∙ sym q
 
-pub gives_some : (s : Stage) (l : Numbered) → ((x : Result Stage HoldsRule) → ExtendsHolds s l x → ⊥) → ⊥
-gives_some Unbegun l none = some_given _ _ none
-gives_some (WithContract formula effects) l none = some_given _ _ none
-gives_some (WithEffects formula current effects) l none = some_given _ _ none
-gives_some (Ended formula current effects) l none = none (Err Unexpected) refl
+pub holds_gives_somehow : (s : Stage) (l : Numbered) → ((x : Result Stage HoldsRule) → ExtendsHolds s l x → ⊥) → ⊥
+holds_gives_somehow Unbegun l none = some_given _ _ none
+holds_gives_somehow (WithContract formula effects) l none = some_given _ _ none
+holds_gives_somehow (WithEffects formula current effects) l none = some_given _ _ none
+holds_gives_somehow (Ended formula current effects) l none = none (Err Unexpected) refl
 
-pub closes_one : (s : Stage) (end : ℕ) (x y : Result Asked (Broken HoldsRule)) → x ≡ closed s end → y ≡ closed s end → x ≡ y
-closes_one s end x y p q = p ∙ sym q
+pub holds_close_once : (s : Stage) (end : ℕ) (x y : Result Asked (Broken HoldsRule)) → x ≡ closed s end → y ≡ closed s end → x ≡ y
+holds_close_once s end x y p q = p ∙ sym q
 
-pub closes_some : (s : Stage) (end : ℕ) → ((x : Result Asked (Broken HoldsRule)) → x ≡ closed s end → ⊥) → ⊥
-closes_some s end none = none (closed s end) refl
+pub holds_close_somehow : (s : Stage) (end : ℕ) → ((x : Result Asked (Broken HoldsRule)) → x ≡ closed s end → ⊥) → ⊥
+holds_close_somehow s end none = none (closed s end) refl
 
 -- an equation between what lines yield has one proof
 pub one_equation : (x y : Result Stage HoldsRule) → IsProp (x ≡ y)

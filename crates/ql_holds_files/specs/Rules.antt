@@ -19,17 +19,17 @@ with_state state (Ok u) = Ok state
 with_state state (Err fault) = Err fault
 
 -- a rule that is broken at a line
-abbrev pub rule_at : HoldsRule → ℕ → HoldsFault
-rule_at Unexpected line = fault.Unexpected line
-rule_at Unknown line = fault.Unknown line
-rule_at Twice line = fault.Twice line
-rule_at TxnAtom line = fault.TxnAtom line
-rule_at Variables line = fault.Variables line
-rule_at Range line = fault.Range line
-rule_at NotForward line = fault.NotForward line
-rule_at OtherObject line = fault.OtherObject line
-rule_at TooMany line = fault.TooMany line
+abbrev pub holds_rule_at : HoldsRule → ℕ → HoldsFault
+holds_rule_at Unexpected line = fault.Unexpected line
+holds_rule_at Unknown line = fault.Unknown line
+holds_rule_at Twice line = fault.Twice line
+holds_rule_at TxnAtom line = fault.TxnAtom line
+holds_rule_at Variables line = fault.Variables line
+holds_rule_at Range line = fault.Range line
+holds_rule_at NotForward line = fault.NotForward line
+holds_rule_at OtherObject line = fault.OtherObject line
+holds_rule_at TooMany line = fault.TooMany line
 
 abbrev pub holds_fault_of : FileFault HoldsRule → HoldsFault
-holds_fault_of (file.Broken broken) = rule_at broken.rule broken.line
+holds_fault_of (file.Broken broken) = holds_rule_at broken.rule broken.line
 holds_fault_of file.NoMemory = fault.NoMemory

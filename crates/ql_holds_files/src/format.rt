@@ -21,7 +21,7 @@ impl LineFormat for Format {
     ghost use Rattle.ql_holds_files.specs.HoldsFile.{ExtendsHolds, closed};
     ghost use Rattle.ql_holds_files.specs.Limits.{IsWithinLimits, stays_within};
     ghost use Rattle.ql_holds_files.specs.NamedOperations.{HasNamedFew, IsShort, shorter, stays_few};
-    ghost use Rattle.ql_holds_files.specs.OneLine.{closes_one, closes_some, gives_one, gives_some, one_equation};
+    ghost use Rattle.ql_holds_files.specs.OneLine.{holds_close_once, holds_close_somehow, holds_gives_once, holds_gives_somehow, one_equation};
 
     type State = Stage;
 
@@ -56,11 +56,11 @@ impl LineFormat for Format {
 
     ghost stays_sound = { λ f s t l more short sound given. (stays_within s t l sound.0 given, stays_few s t l short sound.1 given) };
 
-    ghost gives_one = { λ f s l x y p q. ∥∥₁_elim f.one_contract (one_equation x y) (λ one. gives_one one s l x y p q) };
+    ghost gives_one = { λ f s l x y p q. ∥∥₁_elim f.one_contract (one_equation x y) (λ one. holds_gives_once one s l x y p q) };
 
-    ghost gives_some = { λ f s l none. gives_some s l none };
+    ghost gives_some = { λ f s l none. holds_gives_somehow s l none };
 
-    ghost closes_one = { λ f s end x y p q. closes_one s end x y p q };
+    ghost closes_one = { λ f s end x y p q. holds_close_once s end x y p q };
 
-    ghost closes_some = { λ f s end none. closes_some s end none };
+    ghost closes_some = { λ f s end none. holds_close_somehow s end none };
 }

@@ -17,11 +17,11 @@ pub enum HoldsRule {
 }
 
 impl HoldsRule {
-    ghost use Rattle.ql_holds_files.specs.Rules.{rule_at};
+    ghost use Rattle.ql_holds_files.specs.Rules.{holds_rule_at};
 
     /// The same as a fault of the file, at a line.
     pub(crate) fn at(self, line: u64) -> HoldsFault
-        ensures { result ≡ rule_at self line }
+        ensures { result ≡ holds_rule_at self line }
     {
         match self {
             HoldsRule::Unexpected => HoldsFault::Unexpected(line),

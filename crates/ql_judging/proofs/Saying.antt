@@ -2,7 +2,7 @@
 use Rattle.std.proofs.Common.{◌≡◌, ℕ, List, Some, ap, arith}
 use Rattle.ql_commands.specs.Sources.{IsSourceOf}
 use Rattle.ql_exec.specs.declared.effect.Effect.{Effect}
-use Rattle.ql_execution_files.specs.ExecutionFile.{FirstExecutionFault, IsRefusal}
+use Rattle.ql_execution_files.specs.ExecutionFile.{FirstExecutionFault, IsReportRefusal}
 use Rattle.ql_execution_files.specs.declared.report_fault.ReportFault.{ReportFault}
 use Rattle.ql_execution_files.specs.declared.report_fault.ReportFault.TheVariants.{Unexpected, Unknown, Mixed, Stamp, NotForward, OtherObject, SplitTxn, TooMany, NoMemory}
 use Rattle.ql_execution_files.proofs.FaultLaws as grammar
@@ -18,7 +18,7 @@ use Rattle.ql_judging.proofs.OneExecution.{never-both, one-execution}
 use Rattle.ql_judging.proofs.SamePrograms.{same-execution, same-work}
 
 -- a refusal that is reported is the first fault
-first_fault : (p : Program) (file : Ahead) (f : ReportFault) (text : List ℕ) → IsRefusal p file f → execution_fault_text f ≡ Some text → FirstExecutionFault p file f
+first_fault : (p : Program) (file : Ahead) (f : ReportFault) (text : List ℕ) → IsReportRefusal p file f → execution_fault_text f ≡ Some text → FirstExecutionFault p file f
 first_fault p file (Unexpected line) text h said = h
 first_fault p file (Unknown line) text h said = h
 first_fault p file (Mixed line) text h said = h
@@ -35,7 +35,7 @@ reports-same : ((bytes : List ℕ) (s t : Source) → IsProgramText bytes s → 
 reports-same tree source execution p q x p_is q_is reports = same-execution p q (tree source (source_of p) (source_of q) p_is.0 q_is.0) execution x reports
 
 pub execution_is_bad : ((bytes : List ℕ) (s t : Source) → IsProgramText bytes s → IsProgramText bytes t → s ≡ t)
-    → (source execution : List ℕ) (p : Program) (f : ReportFault) (text : List ℕ) → IsSourceOf source p → IsRefusal p (ahead_from 1 execution) f → execution_fault_text f ≡ Some text
+    → (source execution : List ℕ) (p : Program) (f : ReportFault) (text : List ℕ) → IsSourceOf source p → IsReportRefusal p (ahead_from 1 execution) f → execution_fault_text f ≡ Some text
     → BadExecutionSays source execution text
 execution_is_bad tree source execution p f text is h said =
     let first = grammar.first_fault p (ahead_from 1 execution) f (first_fault p (ahead_from 1 execution) f text h said) in

@@ -1,7 +1,7 @@
 // The line that reports the first breach of a contract.
 ghost use Rattle.std.specs.Prelude.{◌≡◌, ◌<◌, ◌++◌, Some, IfOk, OnErr, OnOk, length};
 ghost use Rattle.ql_typing.specs.Operations.{all_ops};
-ghost use Rattle.ql_verify.specs.Verdicts.{AreOfProgram, IsVerdict};
+ghost use Rattle.ql_verify.specs.Verdicts.{AreOfDeclaredOps, IsVerdict};
 ghost use Rattle.ql_judging.specs.Verify.{ReportsBreach, effect_numbers, op_text, places_text, txn_breach_text};
 
 use crate::member::declared_of;
@@ -19,7 +19,7 @@ pub(crate) fn breach_line(
     x: &Execution,
     breach: &Breach,
 ) -> Result<Vec<u8>, NoMemory>
-    requires ops { AreOfProgram t.now.program x.now }
+    requires ops { AreOfDeclaredOps t.now.program x.now }
     requires verdict { IsVerdict t.now.program x.now (Some breach.now) }
     ensures { IfOk result (λ text. ReportsBreach t.now.program x.now breach.now text.items) }
 {

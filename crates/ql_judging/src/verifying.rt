@@ -1,6 +1,6 @@
 ghost use Rattle.std.specs.Prelude.{◌≡◌, ◌≤◌, ◌<◌, ◌^◌, ◌++◌, IfOk, codes, decimal, length};
 ghost use Rattle.ql_reply.specs.Causes.{IsNoFault};
-ghost use Rattle.ql_verify.specs.Verdicts.{AreOfProgram};
+ghost use Rattle.ql_verify.specs.Verdicts.{AreOfDeclaredOps};
 ghost use Rattle.ql_judging.specs.Verify.{ExecutionSays, VerifySays};
 
 use crate::breach_line::breach_line;
@@ -34,7 +34,7 @@ pub fn verify(alloc: Global, source: &[u8], execution: &[u8]) -> Result<Reply, N
 
 fn verify_execution(alloc: Global, t: &Typed, x: &Execution) -> Result<Reply, NoMemory>
     requires few { length x.now ≤ 4000 }
-    requires ops { AreOfProgram t.now.program x.now }
+    requires ops { AreOfDeclaredOps t.now.program x.now }
     ensures { IfOk result (λ reply. ExecutionSays t.now.program x.now reply.status reply.text.items) }
 {
     match ql_verify::verify(alloc, t, x) {

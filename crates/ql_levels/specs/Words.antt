@@ -5,11 +5,11 @@ use Rattle.ql_levels.specs.declared.level.Level.TheVariants.{Eventual, Causal, W
 use Rattle.ql_levels.specs.declared.level.TxnLevel.{TxnLevel}
 use Rattle.ql_levels.specs.declared.level.TxnLevel.TheVariants.{Rc, Mav, Rr}
 
-abbrev pub word_of : Level → List ℕ
-word_of Eventual = codes "eventual"
-word_of Causal = codes "causal"
-word_of Wide = codes "wide"
-word_of Strong = codes "strong"
+abbrev pub op_level_word : Level → List ℕ
+op_level_word Eventual = codes "eventual"
+op_level_word Causal = codes "causal"
+op_level_word Wide = codes "wide"
+op_level_word Strong = codes "strong"
 
 abbrev pub txn_word_of : TxnLevel → List ℕ
 txn_word_of Rc = codes "rc"

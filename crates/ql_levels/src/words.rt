@@ -1,13 +1,13 @@
 ghost use Rattle.std.specs.Prelude.{◌≡◌, Some, IfSome};
 ghost use Rattle.ql_levels.specs.declared.level.Level.{Level};
 ghost use Rattle.ql_levels.specs.declared.level.TxnLevel.{TxnLevel};
-ghost use Rattle.ql_levels.specs.Words.{word_of, txn_word_of};
+ghost use Rattle.ql_levels.specs.Words.{op_level_word, txn_word_of};
 
 use crate::level::{Level, TxnLevel};
 
 /// The name of a level, as it is written in files.
 pub fn level_word(l: Level) -> &'static str
-    ensures { result.now ≡ word_of l }
+    ensures { result.now ≡ op_level_word l }
 {
     match l {
         Level::Eventual => "eventual",
@@ -30,8 +30,8 @@ pub fn txn_word(l: TxnLevel) -> &'static str
 
 /// The level with this name, if any.
 pub fn level_of(w: &[u8]) -> Option<Level>
-    ensures found { IfSome result (λ l. word_of l ≡ w.now) }
-    ensures only { (l : Level) → word_of l ≡ w.now → result ≡ Some l }
+    ensures found { IfSome result (λ l. op_level_word l ≡ w.now) }
+    ensures only { (l : Level) → op_level_word l ≡ w.now → result ≡ Some l }
 {
     if w == b"eventual".as_slice() {
         Some(Level::Eventual)

@@ -22,9 +22,9 @@ pub data Lexes : ℕ → List ℕ → Result (List Token) LexFault → Type 0 wh
   no_number : {at : ℕ} {text : List ℕ} → StartsWith text NoNumber → Lexes at text (Err (BadNumber at))
 
 -- the fault is the text's first; running out of memory says nothing about the text
-abbrev pub IsFirstFault : List ℕ → LexFault → Type 0
-IsFirstFault text NoMemory = Unit {0}
-IsFirstFault text fault = Lexes 0 text (Err fault)
+abbrev pub IsFirstLexFault : List ℕ → LexFault → Type 0
+IsFirstLexFault text NoMemory = Unit {0}
+IsFirstLexFault text fault = Lexes 0 text (Err fault)
 
 -- tokens that aren't empty, in ascending order, from the offset `at` up to `end`
 abbrev pub AreSpans : ℕ → ℕ → List Token → Type 0

@@ -1,5 +1,5 @@
 ghost use Rattle.std.specs.Prelude.{◌≡◌, ◌<◌, ◌^◌, Ok, length, IfOk, MatchResult};
-ghost use Rattle.ql_lex.specs.Tokens.{AreSpans, IsFirstFault, Lexes};
+ghost use Rattle.ql_lex.specs.Tokens.{AreSpans, IsFirstLexFault, Lexes};
 
 use crate::start::Start;
 use crate::token::{LexFault, Token};
@@ -11,7 +11,7 @@ use std::alloc::Global;
 pub fn tokens(alloc: Global, bytes: &[u8]) -> Result<Vec<Token>, LexFault>
     requires { length bytes.now < 2 ^ 32 }
     ensures exact { MatchResult result
-        (λ found. Lexes 0 bytes.now (Ok found.items)) (IsFirstFault bytes.now) }
+        (λ found. Lexes 0 bytes.now (Ok found.items)) (IsFirstLexFault bytes.now) }
     ensures spans { IfOk result (λ found. AreSpans 0 (length bytes.now) found.items) }
 {
     let mut found = Vec::new(alloc);

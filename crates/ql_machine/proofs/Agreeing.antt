@@ -27,7 +27,7 @@ use Rattle.ql_machine.specs.Blocking.{IsAtHand, IsMissing, IsOf, MissingInTxn, M
 use Rattle.ql_machine.specs.Changes.{effect_made, is_sent}
 use Rattle.ql_machine.specs.Calls.{HasOpen, IsCall, after_plain, blocked, held, makes, makes_own, makes_strong, unavailable, undeclared, unused}
 use Rattle.ql_machine.specs.Kept.{History, IsDone, Keeps, TxnsKept}
-use Rattle.ql_machine.specs.Promised.{AllArrived, IsPlain, at_replica}
+use Rattle.ql_machine.specs.Promised.{AllArrived, IsPlainCall, at_replica}
 use Rattle.ql_machine.proofs.Pushed.{done-closed, undone}
 use Rattle.ql_machine.proofs.OneStep.{same-those}
 use Rattle.ql_machine.proofs.TxnLaws.{done-or-open}
@@ -96,7 +96,7 @@ module _ (rules : Rules) (start : ℕ) (s : Machine) (keeps : Keeps rules.promis
           closed-from (NeedsNow s.effects s.open_txns) (Has (received_at s.received r)) (IsDone s.effects s.open_txns) (received r less).all keeps.history.done a done,
     )
 
-    module _ (c : Call) (plain : IsPlain rules s c) where
+    module _ (c : Call) (plain : IsPlainCall rules s c) where
       -- the view of such a call
       scope-at : (q : ReplicaId) → q.0 < start → (a : ℕ) → Scope rules s (at_replica c q) (open_of s.open_txns c.session) a ↔ IsDone s.effects s.open_txns a
       scope-at q less a = subst (λ (r : Option OpenTxn). Scope rules s (at_replica c q) r a ↔ IsDone s.effects s.open_txns a) (sym plain.0) (by (rules.level c.op) refl)

@@ -25,8 +25,8 @@ abbrev pub AllArrived : Machine → Type 0
 AllArrived s = (m : ℕ) (message : Message) → message_at s.messages m ≡ Some message → (a : ℕ) → Has message.carried a → Has (received_at s.received message.receiver.0) a
 
 -- a call outside any transaction and below strong
-abbrev pub IsPlain : Rules → Machine → Call → Type 0
-IsPlain rules s c = HasNoneOpen s c.session × (rules.level c.op ≢ Strong)
+abbrev pub IsPlainCall : Rules → Machine → Call → Type 0
+IsPlainCall rules s c = HasNoneOpen s c.session × (rules.level c.op ≢ Strong)
 
 -- the same call at another replica
 abbrev pub at_replica : Call → ReplicaId → Call

@@ -12,7 +12,7 @@ ghost use Rattle.ql_machine.specs.Sets.{AreThose};
 ghost use Rattle.ql_machine.specs.Views.{HasApplied, InView};
 ghost use Rattle.ql_machine.specs.Calls.{IsCall};
 ghost use Rattle.ql_machine.specs.Runs.{IsRun};
-ghost use Rattle.ql_machine.specs.Promised.{AllArrived, IsPlain, at_replica};
+ghost use Rattle.ql_machine.specs.Promised.{AllArrived, IsPlainCall, at_replica};
 
 /// The law of agreement between the replicas that were there at the start. A committed effect that one of them
 /// hasn't received was sent to it (`sent`). If all messages have arrived, each has received exactly the
@@ -37,16 +37,16 @@ pub fn replicas_agree()
         ↔ (committed last.effects last.open_txns a ≡ true) }
     ensures not_blocked { (rules : Rules) (n : ℕ) (events : List Event) (replies : List Reply)
         (last : Machine) → IsRun rules n events replies last
-        → AllArrived last → (c : Call) → IsPlain rules last c → c.replica.0 < n
+        → AllArrived last → (c : Call) → IsPlainCall rules last c → c.replica.0 < n
         → (a : EffId) (after : Machine) → IsCall rules last c after (Blocked a) → ⊥ }
     ensures same_view { (rules : Rules) (n : ℕ) (events : List Event) (replies : List Reply)
         (last : Machine) → IsRun rules n events replies last
-        → AllArrived last → (c : Call) → IsPlain rules last c → (q r : ReplicaId) → q.0 < n
+        → AllArrived last → (c : Call) → IsPlainCall rules last c → (q r : ReplicaId) → q.0 < n
         → r.0 < n → (a : ℕ) → InView rules last (at_replica c q) a
         ↔ InView rules last (at_replica c r) a }
     ensures same_effect { (rules : Rules) (n : ℕ) (events : List Event) (replies : List Reply)
         (last : Machine) → IsRun rules n events replies last
-        → AllArrived last → (c : Call) → IsPlain rules last c → (q r : ReplicaId) → q.0 < n
+        → AllArrived last → (c : Call) → IsPlainCall rules last c → (q r : ReplicaId) → q.0 < n
         → r.0 < n → (after : Machine) (t : Reply) → IsCall rules last (at_replica c q) after t
         → (other : Machine) (u : Reply) → IsCall rules last (at_replica c r) other u
         → (after.effects ≡ other.effects) × (t ≡ u) }

@@ -2,7 +2,7 @@
 use Rattle.std.specs.Prelude.{◌++◌, ◌+◌, ◌-◌, ◌/◌, ◌%◌, ◌==◌, ◌&&◌, ◌||◌, nat_le, nat_lt, if◌then◌else◌, ℕ, Bool, List, [], ◌∷◌, codes, decimal, drop, length, get_or, min, take, map}
 use Rattle.std.specs.List.{concat, position_or_len}
 use Rattle.ql_notes.specs.declared.place.Place.{Place}
-use Rattle.ql_notes.specs.Places.{is_line_feed}
+use Rattle.ql_notes.specs.Places.{is_end_of_line}
 
 -- the position after a file's name: its line and its column, from 1
 abbrev pub position : List ℕ → Place → List ℕ
@@ -33,7 +33,7 @@ without_return line = if nat_lt 0 (length line) && (get_or line (length line - 1
 
 -- the rest of a line from an offset on
 abbrev pub line_from : List ℕ → ℕ → List ℕ
-line_from text from = without_return (take (position_or_len is_line_feed (drop from text)) (drop from text))
+line_from text from = without_return (take (position_or_len is_end_of_line (drop from text)) (drop from text))
 
 -- where the shown part of a line begins: of a long one 100 bytes before the offset
 abbrev pub shown_from : Place → ℕ

@@ -3,8 +3,8 @@ use Rattle.std.specs.Prelude.{◌≡◌, ◌≢◌, ◌⊎◌, ◌==◌, ◌+◌
 use Rattle.std.specs.List.{count_by}
 use Rattle.ql_notes.specs.declared.place.Place.{Place}
 
-abbrev pub is_line_feed : ℕ → Bool
-is_line_feed b = b == 10
+abbrev pub is_end_of_line : ℕ → Bool
+is_end_of_line b = b == 10
 
 -- the line of an offset begins here: there is no line feed in between, and one right before, except for the first line
 pub record IsLineStart (text : List ℕ) (at start : ℕ) : Type 0 where
@@ -16,7 +16,7 @@ pub record IsLineStart (text : List ℕ) (at start : ℕ) : Type 0 where
 pub record IsPosition (text : List ℕ) (at : ℕ) (place : Place) : Type 0 where
   pub is_at : place.at ≡ at
   pub within : at ≤ length text
-  pub line : place.line ≡ count_by is_line_feed (take at text) + 1
+  pub line : place.line ≡ count_by is_end_of_line (take at text) + 1
   pub start : IsLineStart text at place.start
 
 -- the position is that of a line's first byte that isn't blank
@@ -28,4 +28,4 @@ pub record IsInLine (text : List ℕ) (number : ℕ) (place : Place) : Type 0 wh
 
 -- every byte of the line is a blank: it has no bytes, or it is the last line and has only blanks
 abbrev pub IsBlankLine : List ℕ → ℕ → Type 0
-IsBlankLine text number = (k : ℕ) → k < length text → count_by is_line_feed (take k text) + 1 ≡ number → get_or text k 0 ≡ 32
+IsBlankLine text number = (k : ℕ) → k < length text → count_by is_end_of_line (take k text) + 1 ≡ number → get_or text k 0 ≡ 32

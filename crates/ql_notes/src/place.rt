@@ -1,6 +1,6 @@
 ghost use Rattle.std.specs.Prelude.{◌≡◌, ◌⊎◌, ◌≤◌, length, min, take};
 ghost use Rattle.std.specs.List.{position_or_len};
-ghost use Rattle.ql_notes.specs.Places.{IsBlankLine, IsInLine, IsPosition, is_line_feed};
+ghost use Rattle.ql_notes.specs.Places.{IsBlankLine, IsInLine, IsPosition, is_end_of_line};
 
 /// A position in a text: its line, from 1, and in bytes the offset of that line's first byte and its own.
 #[derive(Clone, Copy)]
@@ -50,13 +50,13 @@ pub fn place_of_line(text: &[u8], number: u64) -> Place
 
 /// The bytes before the first line feed.
 pub fn line_of(text: &[u8]) -> &[u8]
-    ensures { result.now ≡ take (position_or_len is_line_feed text.now) text.now }
+    ensures { result.now ≡ take (position_or_len is_end_of_line text.now) text.now }
 {
     text.split_at(bytes_before_feed(text)).0
 }
 
 fn bytes_before_feed(text: &[u8]) -> usize
-    ensures longest { result ≡ position_or_len is_line_feed text.now }
+    ensures longest { result ≡ position_or_len is_end_of_line text.now }
     ensures within { result ≤ length text.now }
 {
     text.iter().take_while(|b| **b != b'\n').count()

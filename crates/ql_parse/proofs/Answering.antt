@@ -1,5 +1,5 @@
 use Rattle.std.proofs.Common.{◌≡◌, ℕ, List, [], ◌∷◌, Some, None, Ok, Err, refl, sym, ◌∙◌, length, ap}
-use Rattle.ql_lex.specs.Tokens.{Lexes, IsFirstFault}
+use Rattle.ql_lex.specs.Tokens.{Lexes, IsFirstLexFault}
 use Rattle.ql_lex.specs.declared.token.LexFault.{LexFault}
 use Rattle.ql_lex.specs.declared.token.LexFault.TheVariants.{BadChar, LongWord, BadNumber, NoMemory}
 use Rattle.ql_lex.specs.declared.token.Token.{Token}
@@ -66,7 +66,7 @@ module _ {A T : Type 0} {p : Part} {value : A → Value} {Reads : List Marked �
   pub text_goes_on : (after : Reading) (v : Value) (e : Refusal) → Gave (APart p) v r after → EndsNot after e → IsParsed Reads tree_of bytes (Err (of_refusal e))
   text_goes_on after v e gave goes = answer_of e (λ f is. gave [] [] ∙ goes f is (v ∷ []))
 
-pub lex_refused : {A T : Type 0} (Reads : List Marked → List Marked → A → Type 0) (tree_of : T → A) (bytes : List ℕ) (f : LexFault) → IsFirstFault bytes f → IsParsed Reads tree_of bytes (Err (of_lex f))
+pub lex_refused : {A T : Type 0} (Reads : List Marked → List Marked → A → Type 0) (tree_of : T → A) (bytes : List ℕ) (f : LexFault) → IsFirstLexFault bytes f → IsParsed Reads tree_of bytes (Err (of_lex f))
 lex_refused Reads tree_of bytes (BadChar at) first = first
 lex_refused Reads tree_of bytes (LongWord at) first = first
 lex_refused Reads tree_of bytes (BadNumber at) first = first

@@ -7,8 +7,8 @@ use Rattle.ql_holder.proofs.NeedsLaws.{closed-grown}
 use Rattle.ql_holder.proofs.Packages.{whole-grown}
 use Rattle.ql_plain_holder.specs.Plain.{FitsPlain}
 
-pub fits-more : (received applied : List ℕ) (x more : List Effect) → IsExecution (x ++ more) → FitsPlain received applied x → JoinsNone x more received → FitsPlain received applied (x ++ more)
-fits-more received applied x more law fits alone = record {
+pub plain_fits-more : (received applied : List ℕ) (x more : List Effect) → IsExecution (x ++ more) → FitsPlain received applied x → JoinsNone x more received → FitsPlain received applied (x ++ more)
+plain_fits-more received applied x more law fits alone = record {
   ascending = fits.ascending;
   whole = whole-grown x more received fits.whole alone;
   exact = λ a.

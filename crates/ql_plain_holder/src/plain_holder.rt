@@ -31,7 +31,7 @@ impl Drop for PlainHolder {
 
 impl Holder for PlainHolder {
     ghost use Rattle.ql_plain_holder.specs.Plain.{FitsPlain};
-    ghost use Rattle.ql_plain_holder.specs.PlainLaws.{fits-more};
+    ghost use Rattle.ql_plain_holder.specs.PlainLaws.{plain_fits-more};
 
     ghost received = { λ h. h.received };
 
@@ -73,7 +73,7 @@ impl Holder for PlainHolder {
 
     ghost fits_whole = { λ h x fits. fits.whole };
 
-    ghost fits_more = { λ h x more law fits alone. fits-more h.received h.applied x more law fits alone };
+    ghost fits_more = { λ h x more law fits alone. plain_fits-more h.received h.applied x more law fits alone };
 }
 
 // How many of the ids, from the first on, are in the set.

@@ -10,7 +10,7 @@ use Rattle.ql_cnf.specs.Satisfaction.{ClauseList}
 use Rattle.ql_cnf.specs.declared.lit.Lit.{Lit}
 use Rattle.ql_refute.specs.Partial.{Partial, nothing, with_true, with_all_false}
 use Rattle.ql_refute.specs.Verdict.{hinted}
-use Rattle.ql_refute.specs.Marks.{mark_of, value_of_mark, marked, IsClear, unmarked, has_variable, OnlyMarks, hinted_literals}
+use Rattle.ql_refute.specs.Marks.{mark_of, value_of_mark, assignment_of_marks, IsClear, unmarked, has_variable, OnlyMarks, hinted_literals}
 use Rattle.ql_refute.specs.declared.refutation.Hint.{Hint}
 use Rattle.ql_refute.specs.declared.refutation.Line.{Line}
 
@@ -36,15 +36,15 @@ marked_at m x v false h e =
     rw get_or-set_other refl
 
 -- a mark makes its literal true
-pub marked-set : (m : List ℕ) (x : Lit) → x.var < length m → marked (slice_set m x.var (mark_of x.positive)) ≡ with_true (marked m) x
+pub marked-set : (m : List ℕ) (x : Lit) → x.var < length m → assignment_of_marks (slice_set m x.var (mark_of x.positive)) ≡ with_true (assignment_of_marks m) x
 marked-set m x h = λ i v. marked_at m x v (v == x.var) h refl i
 
 -- clear marks stand for nothing
-pub marked-clear : (m : List ℕ) → IsClear m → marked m ≡ nothing
+pub marked-clear : (m : List ℕ) → IsClear m → assignment_of_marks m ≡ nothing
 marked-clear m h = λ i v. (ap value_of_mark (h v)) i
 
 -- one more literal is made false
-pub falsify_more : (lits : List Lit) (i : ℕ) (d : Lit) (p : Partial) (m : List ℕ) → i < length lits → (get_or lits i d).var < length m → p ≡ with_all_false (marked m) (drop i lits) → p ≡ with_all_false (marked (slice_set m (get_or lits i d).var (mark_of (not (get_or lits i d).positive)))) (drop (i + 1) lits)
+pub falsify_more : (lits : List Lit) (i : ℕ) (d : Lit) (p : Partial) (m : List ℕ) → i < length lits → (get_or lits i d).var < length m → p ≡ with_all_false (assignment_of_marks m) (drop i lits) → p ≡ with_all_false (assignment_of_marks (slice_set m (get_or lits i d).var (mark_of (not (get_or lits i d).positive)))) (drop (i + 1) lits)
 falsify_more lits i d p m h l e =
     e ∙ rw (drop-cons lits i d h, add-one) (ap (λ (q : Partial). with_all_false q (drop (suc i) lits)) (sym (marked-set m (negated (get_or lits i d)) l)))
 

@@ -9,7 +9,7 @@ use Rattle.std.specs.Option.{option_map}
 use Rattle.ql_cnf.specs.Literals.{negated}
 use Rattle.ql_cnf.specs.Satisfaction.{ClauseList, variable_value, literal_true, clause_true, all_true, IsUnsatisfiable}
 use Rattle.ql_cnf.specs.declared.lit.Lit.{Lit}
-use Rattle.ql_refute.specs.Partial.{Partial, nothing, with_true, with_all_false, is_value, is_open, reading_of, reading}
+use Rattle.ql_refute.specs.Partial.{Partial, nothing, with_true, with_all_false, is_value, is_not_false, reading_of, reading}
 use Rattle.ql_refute.specs.Verdict.{numbered, hinted, after_reading, after_hint, hints_fault, variables_in_range, line_fault, first_of_two, first_fault, is_empty, has_empty, verdict, IsGood}
 use Rattle.ql_refute.specs.declared.marks.Reading.{Reading}
 use Rattle.ql_refute.specs.declared.marks.Reading.TheVariants.{AllFalse, Forces, Neither}
@@ -69,7 +69,7 @@ agrees_false a (x ∷ xs) p h agrees =
     right false d e = e
 
 -- what is false in p is false in the assignment
-false_there : (a : List Bool) (p : Partial) (x : Lit) → Agrees a p → is_open p x ≡ false → literal_true a x ≡ false
+false_there : (a : List Bool) (p : Partial) (x : Lit) → Agrees a p → is_not_false p x ≡ false → literal_true a x ≡ false
 false_there a p x agrees h = step (p x.var) refl h
   where
     step : (o : Option Bool) → p x.var ≡ o → not (is_value o (not x.positive)) ≡ false → literal_true a x ≡ false
@@ -83,11 +83,11 @@ false_there a p x agrees h = step (p x.var) refl h
         flip false g = absurd (cc)
 
 -- a true clause has a true literal among those that aren't false in p
-true_open : (a : List Bool) (p : Partial) (d : List Lit) → Agrees a p → clause_true a d ≡ true → clause_true a (filter (is_open p) d) ≡ true
+true_open : (a : List Bool) (p : Partial) (d : List Lit) → Agrees a p → clause_true a d ≡ true → clause_true a (filter (is_not_false p) d) ≡ true
 true_open a p [] agrees h = h
-true_open a p (x ∷ xs) agrees h = step (is_open p x) (literal_true a x) refl refl h (true_open a p xs agrees)
+true_open a p (x ∷ xs) agrees h = step (is_not_false p x) (literal_true a x) refl refl h (true_open a p xs agrees)
   where
-    step : (b t : Bool) → is_open p x ≡ b → literal_true a x ≡ t → (t || clause_true a xs) ≡ true → (clause_true a xs ≡ true → clause_true a (filter (is_open p) xs) ≡ true) → clause_true a (cond b (x ∷ filter (is_open p) xs) (filter (is_open p) xs)) ≡ true
+    step : (b t : Bool) → is_not_false p x ≡ b → literal_true a x ≡ t → (t || clause_true a xs) ≡ true → (clause_true a xs ≡ true → clause_true a (filter (is_not_false p) xs) ≡ true) → clause_true a (cond b (x ∷ filter (is_not_false p) xs) (filter (is_not_false p) xs)) ≡ true
     step true true e f g ih = rw f refl
     step true false e f g ih = rw f (ih g)
     step false true e f g ih = absurd (let no : literal_true a x ≡ false = false_there a p x agrees e in cc)
@@ -108,7 +108,7 @@ reading_sound a k p next (x ∷ y ∷ ys) agrees h ih e = cc
 
 hint_sound : (a : List Bool) (k : ℕ) (p : Partial) (next : Partial → Option Verdict) (o : Option (List Lit)) → Agrees a p → IfSome o (λ d. clause_true a d ≡ true) → ((q : Partial) → next q ≡ None → Agrees a q → ⊥) → after_hint k o p next ≡ None → ⊥
 hint_sound a k p next None agrees h ih e = cc
-hint_sound a k p next (Some d) agrees h ih e = reading_sound a k p next (filter (is_open p) d) agrees (true_open a p d agrees h) ih e
+hint_sound a k p next (Some d) agrees h ih e = reading_sound a k p next (filter (is_not_false p) d) agrees (true_open a p d agrees h) ih e
 
 get_passes : {X : Type 0} → (test : X → Bool) (xs : List X) (n : ℕ) → list_all test xs ≡ true → IfSome (slice_get xs n) (λ x. test x ≡ true)
 get_passes test [] n h = tt

@@ -8,9 +8,9 @@ use Rattle.std.specs.Prelude.{is_some, nat_le, IfNone}
 use Rattle.std.specs.List.{All, filter}
 use Rattle.ql_cnf.specs.Satisfaction.{ClauseList, AreInRange}
 use Rattle.ql_cnf.specs.declared.lit.Lit.{Lit}
-use Rattle.ql_refute.specs.Partial.{Partial, with_true, with_all_false, is_open, reading_of, reading}
+use Rattle.ql_refute.specs.Partial.{Partial, with_true, with_all_false, is_not_false, reading_of, reading}
 use Rattle.ql_refute.specs.Verdict.{hinted, hints_fault, variables_in_range, line_fault, first_of_two, first_fault}
-use Rattle.ql_refute.specs.Marks.{has_variable, marked, IsClear, unmarked, OnlyMarks, hinted_literals, LinesInRange}
+use Rattle.ql_refute.specs.Marks.{has_variable, assignment_of_marks, IsClear, unmarked, OnlyMarks, hinted_literals, LinesInRange}
 use Rattle.ql_refute.specs.declared.marks.Reading.TheVariants.{Forces, Neither}
 use Rattle.ql_refute.specs.declared.refutation.Hint.{Hint}
 use Rattle.ql_refute.specs.declared.refutation.Line.{Line}
@@ -30,7 +30,7 @@ from_reading p (y ∷ z ∷ ys) x h = absurd (cc)
 -- what holds of each literal of a clause holds of the one that it forces
 pub forced_passes : (P : Lit → Type 0) (p : Partial) (d : List Lit) (x : Lit) → reading p d ≡ Forces x → All P d → P x
 forced_passes P p d x h all =
-    let only : All P (x ∷ []) = (let Q : List Lit → Type 0 = λ ys. All P ys in subst Q (from_reading p (filter (is_open p) d) x h) (All-filter (is_open p) P d all)) in
+    let only : All P (x ∷ []) = (let Q : List Lit → Type 0 = λ ys. All P ys in subst Q (from_reading p (filter (is_not_false p) d) x h) (All-filter (is_not_false p) P d all)) in
     only 0 x (omega arith)
 
 pub forced_variable : (p : Partial) (d : List Lit) (x : Lit) → reading p d ≡ Forces x → has_variable d x.var ≡ true
@@ -47,7 +47,7 @@ in_range-true n c h = list_all-from_AllPass (λ x. nat_le 1 x.var && nat_le x.va
     both x g = grind (arith, nat_tests)
 
 -- the refusal of a line whose variables are in range
-pub line_fault_of : (c : ClauseList) (e : List Line) (line : Line) (m : List ℕ) → AreInRange c.variables line.clause → IsClear m → hints_fault c e (length e + 1) line.hints (with_all_false (marked m) line.clause) ≡ line_fault c e line
+pub line_fault_of : (c : ClauseList) (e : List Line) (line : Line) (m : List ℕ) → AreInRange c.variables line.clause → IsClear m → hints_fault c e (length e + 1) line.hints (with_all_false (assignment_of_marks m) line.clause) ≡ line_fault c e line
 line_fault_of c e line m inside clear = rw (marked-clear m clear, in_range-true c.variables line.clause inside) refl
 
 -- a good line, and one at fault

@@ -18,8 +18,8 @@ abbrev pub value_of_mark : ℕ → Option Bool
 value_of_mark n = if n == 1 then Some true else (if n == 2 then Some false else None)
 
 -- the partial assignment that the marks stand for
-abbrev pub marked : List ℕ → Partial
-marked marks = λ v. value_of_mark (slice_index marks v)
+abbrev pub assignment_of_marks : List ℕ → Partial
+assignment_of_marks marks = λ v. value_of_mark (slice_index marks v)
 
 -- no variable is marked
 abbrev pub IsClear : List ℕ → Type 0

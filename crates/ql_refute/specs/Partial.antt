@@ -30,8 +30,8 @@ is_value None b = false
 is_value (Some a) b = beq a b
 
 -- the literal isn't false
-abbrev pub is_open : Partial → Lit → Bool
-is_open p x = not (is_value (p x.var) (not x.positive))
+abbrev pub is_not_false : Partial → Lit → Bool
+is_not_false p x = not (is_value (p x.var) (not x.positive))
 
 -- how a clause reads, by those of its literals that aren't false
 abbrev pub reading_of : Partial → List Lit → Reading
@@ -41,4 +41,4 @@ reading_of p (x ∷ y ∷ ys) = Neither
 
 -- all its literals are false; or all but one, which is unset; or neither
 abbrev pub reading : Partial → List Lit → Reading
-reading p c = reading_of p (filter (is_open p) c)
+reading p c = reading_of p (filter (is_not_false p) c)

@@ -1,7 +1,7 @@
 ghost use Rattle.std.specs.Prelude.{◌≡◌, ◌+◌, ◌<◌, ◌≤◌, ◌++◌, [], IfSome, IfNone, length, slice_set};
 ghost use Rattle.std.specs.Option.{option_copied};
 ghost use Rattle.ql_cnf.specs.Satisfaction.{AreInRange, IsUnsatisfiable};
-ghost use Rattle.ql_refute.specs.Marks.{AllBelow, IsClear, LinesInRange, OnlyMarks, hinted_literals, mark_of, marked, unmarked, value_of_mark};
+ghost use Rattle.ql_refute.specs.Marks.{AllBelow, IsClear, LinesInRange, OnlyMarks, hinted_literals, mark_of, assignment_of_marks, unmarked, value_of_mark};
 ghost use Rattle.ql_refute.specs.Partial.{reading, with_all_false};
 ghost use Rattle.ql_refute.specs.Verdict.{first_fault, has_empty, hinted, hints_fault, line_fault, verdict};
 
@@ -93,7 +93,7 @@ fn hints_fault(c: &Clauses, earlier: &[Line], line: &Line, marks: &mut [u8]) -> 
     requires only { OnlyMarks marks.old
         (line.now.clause ++ hinted_literals c.now earlier.now line.now.hints) }
     ensures fault { result
-        ≡ hints_fault c.now earlier.now (length earlier.now + 1) line.now.hints (marked marks.old) }
+        ≡ hints_fault c.now earlier.now (length earlier.now + 1) line.now.hints (assignment_of_marks marks.old) }
     ensures only { OnlyMarks marks.new
         (line.now.clause ++ hinted_literals c.now earlier.now line.now.hints) }
 {

@@ -1,6 +1,6 @@
 // A partial assignment in a buffer with one byte for each variable, and how clauses read under it.
 ghost use Rattle.std.specs.Prelude.{◌≡◌, ◌<◌, length, slice_set};
-ghost use Rattle.ql_refute.specs.Marks.{AllBelow, IsClear, OnlyMarks, mark_of, marked, unmarked, value_of_mark};
+ghost use Rattle.ql_refute.specs.Marks.{AllBelow, IsClear, OnlyMarks, mark_of, assignment_of_marks, unmarked, value_of_mark};
 ghost use Rattle.ql_refute.specs.Partial.{reading, with_all_false};
 
 use ql_cnf::Lit;
@@ -30,7 +30,7 @@ pub fn clear(marks: &mut [u8])
 /// Makes the literals false, in order.
 pub fn falsify(literals: &[Lit], marks: &mut [u8])
     requires in_range { AllBelow (length marks.old) literals.now }
-    ensures falsified { marked marks.new ≡ with_all_false (marked marks.old) literals.now }
+    ensures falsified { assignment_of_marks marks.new ≡ with_all_false (assignment_of_marks marks.old) literals.now }
     ensures only { IsClear marks.old → OnlyMarks marks.new literals.now }
 {
     for lit in literals {
@@ -66,7 +66,7 @@ fn mark_of(value: bool) -> u8
 /// How the clause reads under the marks. One true literal settles it, as do two that aren't false.
 pub fn read(clause: &[Lit], marks: &[u8]) -> Reading
     requires { AllBelow (length marks.now) clause.now }
-    ensures { result ≡ reading (marked marks.now) clause.now }
+    ensures { result ≡ reading (assignment_of_marks marks.now) clause.now }
 {
     let mut open = None;
     for lit in clause {

@@ -18,7 +18,7 @@ use Rattle.ql_ground.specs.Relations as ground
 use Rattle.ql_ground.specs.Truth as plainly
 use Rattle.ql_implication.proofs.Plain.{inside-same, plain_all, plain_at, plain_effect, plain_member}
 use Rattle.ql_implication.proofs.Same.{chosen-from, chosen-to, execution-same, fits-same, op_at, statement-same}
-use Rattle.ql_relative.specs.Keeping.{KeepsLevel, KeepsLevels, Meets, MeetsTxn, op_level, txn_level}
+use Rattle.ql_relative.specs.Keeping.{KeepsLevel, KeepsLevels, MeetsContract, MeetsTxn, op_level, txn_level}
 use Rattle.ql_relative.proofs.PlainKeeping as kept
 
 -- the effect of an execution at the place of a plain one
@@ -55,7 +55,7 @@ plain-level x levels uses run d keeps = record {
       ∙ keeps.holds places (chosen-to x (txn_formula_of (txn_level levels d)).vars places chosen);
 }
 
-pub op_carried : (types : List ℕ) (levels : LevelLists) (o : ℕ) (f : Resolved) → kept.Meets types levels o f → Meets types levels o f
+pub op_carried : (types : List ℕ) (levels : LevelLists) (o : ℕ) (f : Resolved) → kept.Meets types levels o f → MeetsContract types levels o f
 op_carried types levels o f h x law fits keeps a e there is_o places chosen =
     let is_op : ground.is_op (plain_all x) o a ≡ true = op_at x o a ∙ ap (exec.one (λ u. nat_eq u.op.0 o)) there ∙ eq-eqb e.op.0 o is_o in
     sym (statement-same x (λ b. false) (λ b. false) (λ b. refl) places a f.body)

@@ -4,7 +4,7 @@ use Rattle.std.proofs.lemmas.List.{map-append}
 use Rattle.std.proofs.lemmas.Bool.{le-ltb, lt-ltb}
 use Rattle.std.specs.Bool.{MatchBool}
 use Rattle.std.specs.Prelude.{slice_get}
-use Rattle.ql_atoms.specs.Atoms.{Size, count_of}
+use Rattle.ql_atoms.specs.Atoms.{Size, atom_count}
 use Rattle.ql_base.specs.Ranges.{upto}
 use Rattle.ql_base.specs.declared.ids.DeclId.{DeclId}
 use Rattle.ql_base.specs.declared.ids.OpId.{OpId}
@@ -53,12 +53,12 @@ pub txn_sized : (p : Program) (f : Resolved) (n m : ℕ) → n ≡ length f.vars
 txn_sized p f n m h g = ap (λ k. size k m) h ∙ ap (λ k. size (length f.vars) k) (g ∙ sym (length-kinds 0 p.types))
 
 -- a goal's problem has the variables of its atoms
-pub op_room : (p : Program) (o : OpId) (level : Level) (f : Resolved) (s : Size) (c : ClauseList) → slice_get (op_contracts p.types) o.0 ≡ Some f → s ≡ op_size (op_kinds p.types) f → IsProblemOf p (OpAt o level) c → count_of s ≤ c.variables
+pub op_room : (p : Program) (o : OpId) (level : Level) (f : Resolved) (s : Size) (c : ClauseList) → slice_get (op_contracts p.types) o.0 ≡ Some f → s ≡ op_size (op_kinds p.types) f → IsProblemOf p (OpAt o level) c → atom_count s ≤ c.variables
 op_room p o level f s c there same (g, it, is) =
     let f_is : f ≡ g = cc in
     rw (is, same, f_is) (omega arith)
 
-pub txn_room : (p : Program) (d : DeclId) (level : TxnLevel) (f : Resolved) (s : Size) (c : ClauseList) → slice_get (txn_contracts p) d.0 ≡ Some f → s ≡ txn_size (op_kinds p.types) f → IsProblemOf p (TxnAt d level) c → count_of s ≤ c.variables
+pub txn_room : (p : Program) (d : DeclId) (level : TxnLevel) (f : Resolved) (s : Size) (c : ClauseList) → slice_get (txn_contracts p) d.0 ≡ Some f → s ≡ txn_size (op_kinds p.types) f → IsProblemOf p (TxnAt d level) c → atom_count s ≤ c.variables
 txn_room p d level f s c there same (g, it, is) =
     let f_is : f ≡ g = cc in
     rw (is, same, f_is) (omega arith)

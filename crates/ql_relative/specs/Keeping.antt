@@ -36,8 +36,8 @@ pub record KeepsLevel (levels : LevelLists) (uses : ℕ → Bool) (x : List Effe
 
 -- in every execution of the program, of any length, that keeps the levels, each effect of the operation meets the
 -- contract
-abbrev pub Meets : List ℕ → LevelLists → ℕ → Resolved → Type 0
-Meets types levels o contract =
+abbrev pub MeetsContract : List ℕ → LevelLists → ℕ → Resolved → Type 0
+MeetsContract types levels o contract =
     (x : List Effect) → IsExecution x → FitsProgram types x → KeepsLevels levels x → (a : ℕ) (e : Effect) → effect_at x a ≡ Some e → e.op.0 ≡ o → Holds x contract a
 
 -- in every such execution, each begun transaction that keeps the level of d meets the contract

@@ -5,12 +5,12 @@ use Rattle.ql_lang.specs.Formulas.{Resolved}
 use Rattle.ql_lang.specs.declared.program.Program.{Program}
 use Rattle.ql_levels.specs.Lists.{LevelLists}
 use Rattle.ql_typing.specs.Operations.{all_ops, op_contracts, op_kinds, txn_contracts, uses_op}
-use Rattle.ql_relative.specs.Keeping.{Meets, MeetsTxn}
+use Rattle.ql_relative.specs.Keeping.{MeetsContract, MeetsTxn}
 use Rattle.ql_relative.specs.Relative.{op_relative, txn_relative}
 
 -- how many targets there are
-abbrev pub targets : Program → ℕ
-targets p = length (all_ops p.types) + length p.txns
+abbrev pub target_count : Program → ℕ
+target_count p = length (all_ops p.types) + length p.txns
 
 -- the levels are those of the program's targets
 pub record AreFor (p : Program) (levels : LevelLists) : Type 0 where
@@ -33,7 +33,7 @@ IsRelative p levels target c =
 
 -- an operation, or a declared transaction, meets its contract wherever all effects keep the levels
 abbrev pub OpMeets : Program → LevelLists → ℕ → Type 0
-OpMeets p levels o = (f : Resolved) → slice_get (op_contracts p.types) o ≡ Some f → Meets (op_kinds p.types) levels o f
+OpMeets p levels o = (f : Resolved) → slice_get (op_contracts p.types) o ≡ Some f → MeetsContract (op_kinds p.types) levels o f
 
 abbrev pub TxnMeets : Program → LevelLists → ℕ → Type 0
 TxnMeets p levels d = (f : Resolved) → slice_get (txn_contracts p) d ≡ Some f → MeetsTxn (op_kinds p.types) levels (uses_op p d) d f

@@ -1,6 +1,6 @@
 ghost use Rattle.std.specs.Prelude.{◌≡◌, ◌<◌, ◌≤◌, ◌++◌, length, OnOk};
 ghost use Rattle.std.specs.List.{All};
-ghost use Rattle.ql_atoms.specs.Atoms.{size_of, count_of};
+ghost use Rattle.ql_atoms.specs.Atoms.{size_of, atom_count};
 ghost use Rattle.ql_base.specs.Ranges.{upto};
 ghost use Rattle.ql_cnf.specs.Circuits.{clauses_of};
 ghost use Rattle.ql_ground.specs.Parts.{IsRuleAtom, rule_of};
@@ -24,7 +24,7 @@ pub(crate) fn add_kept(
     c: &mut Clauses,
 ) -> Result<(), NoMemory>
     requires levels { length levels.now.ops ≡ s.operations }
-    requires variables { count_of (size_of s) ≤ c.old.variables }
+    requires variables { atom_count (size_of s) ≤ c.old.variables }
     ensures variables { c.new.variables ≡ c.old.variables }
     ensures clauses { OnOk result
         (c.new.clauses ≡ c.old.clauses ++ clauses_of (groups.kept levels.now (size_of s))) }
@@ -37,7 +37,7 @@ pub(crate) fn add_kept(
 // What each effect keeps of its operation's level.
 fn add_operations(alloc: Global, levels: &Levels, s: Shape, c: &mut Clauses) -> Result<(), NoMemory>
     requires levels { length levels.now.ops ≡ s.operations }
-    requires variables { count_of (size_of s) ≤ c.old.variables }
+    requires variables { atom_count (size_of s) ≤ c.old.variables }
     ensures variables { c.new.variables ≡ c.old.variables }
     ensures clauses { OnOk result
         (c.new.clauses ≡ c.old.clauses
@@ -60,7 +60,7 @@ fn add_kept_of(
 ) -> Result<(), NoMemory>
     requires levels { length levels.now.ops ≡ s.operations }
     requires effect { effect < s.constants }
-    requires variables { count_of (size_of s) ≤ c.old.variables }
+    requires variables { atom_count (size_of s) ≤ c.old.variables }
     ensures variables { c.new.variables ≡ c.old.variables }
     ensures clauses { OnOk result
         (c.new.clauses ≡ c.old.clauses
@@ -83,7 +83,7 @@ fn add_kept_at(
 ) -> Result<(), NoMemory>
     requires op { op.0.0 < s.operations }
     requires effect { effect < s.constants }
-    requires variables { count_of (size_of s) ≤ c.old.variables }
+    requires variables { atom_count (size_of s) ≤ c.old.variables }
     ensures variables { c.new.variables ≡ c.old.variables }
     ensures clauses { OnOk result
         (c.new.clauses ≡ c.old.clauses ++ clauses_of (kept_at (size_of s) effect op.0 op.1)) }
@@ -133,7 +133,7 @@ fn add_instances_at(
     requires first { first < s.constants }
     requires hypotheses { All (IsRuleAtom (size_of s)) r.now.hypotheses.now }
     requires conclusions { All (IsRuleAtom (size_of s)) r.now.conclusions.now }
-    requires variables { count_of (size_of s) ≤ c.old.variables }
+    requires variables { atom_count (size_of s) ≤ c.old.variables }
     ensures variables { c.new.variables ≡ c.old.variables }
     ensures clauses { OnOk result
         (c.new.clauses ≡ c.old.clauses

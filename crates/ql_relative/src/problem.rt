@@ -1,7 +1,7 @@
 ghost use Rattle.std.specs.Prelude.{◌≡◌, ◌<◌, length, IfOk};
 ghost use Rattle.ql_cnf.specs.Satisfaction.{IsUnsatisfiable};
 ghost use Rattle.ql_typing.specs.Operations.{all_ops};
-ghost use Rattle.ql_relative.specs.OfPrograms.{AreFor, IsOpRelative, IsRelative, IsTxnRelative, OpMeets, TargetMeets, TxnMeets, targets};
+ghost use Rattle.ql_relative.specs.OfPrograms.{AreFor, IsOpRelative, IsRelative, IsTxnRelative, OpMeets, TargetMeets, TxnMeets, target_count};
 
 use crate::kept::add_kept;
 use crate::used::add_used;
@@ -19,7 +19,7 @@ use std::alloc::Global;
 /// so their numbers are the same.
 pub fn relative(alloc: Global, t: &Typed, levels: &Levels, target: u32) -> Result<Clauses, NoMemory>
     requires levels { AreFor t.now.program levels.now }
-    requires target { target < targets t.now.program }
+    requires target { target < target_count t.now.program }
 
     // The clauses are the written ones, in their order.
     ensures list { IfOk result (IsRelative t.now.program levels.now target) }

@@ -1,5 +1,5 @@
 ghost use Rattle.std.specs.Prelude.{◌≡◌, ◌<◌, ◌≤◌, ◌++◌, true, length, map, OnOk};
-ghost use Rattle.ql_atoms.specs.Atoms.{size_of, count_of};
+ghost use Rattle.ql_atoms.specs.Atoms.{size_of, atom_count};
 ghost use Rattle.ql_cnf.specs.Circuits.{clauses_of};
 ghost use Rattle.ql_cnf.specs.Satisfaction.{AreInRange};
 ghost use Rattle.ql_typing.specs.Operations.{all_ops, uses_op};
@@ -24,7 +24,7 @@ pub(crate) fn add_used(
 ) -> Result<(), NoMemory>
     requires txn { d.0 < length t.now.program.txns }
     requires operations { s.operations ≡ length (all_ops t.now.program.types) }
-    requires variables { count_of (size_of s) ≤ c.old.variables }
+    requires variables { atom_count (size_of s) ≤ c.old.variables }
     ensures variables { c.new.variables ≡ c.old.variables }
     ensures clauses { OnOk result
         (c.new.clauses ≡ c.old.clauses
@@ -48,7 +48,7 @@ fn add_used_at(
     requires txn { place.0.0 < length t.now.program.txns }
     requires effect { place.1 < s.constants }
     requires operations { s.operations ≡ length (all_ops t.now.program.types) }
-    requires variables { count_of (size_of s) ≤ c.old.variables }
+    requires variables { atom_count (size_of s) ≤ c.old.variables }
     ensures variables { c.new.variables ≡ c.old.variables }
     ensures clauses { OnOk result
         (c.new.clauses ≡ c.old.clauses
@@ -73,11 +73,11 @@ fn push_used(
     requires txn { d.0 < length t.now.program.txns }
     requires effect { effect < s.constants }
     requires operations { s.operations ≡ length (all_ops t.now.program.types) }
-    requires in_range { AreInRange (count_of (size_of s)) lits.old.items }
+    requires in_range { AreInRange (atom_count (size_of s)) lits.old.items }
     ensures lits { OnOk result
         (lits.new.items ≡ lits.old.items
         ++ map (literal_of (size_of s) true) (used_atoms (uses_op t.now.program d.0) (size_of s) effect)) }
-    ensures in_range { OnOk result (AreInRange (count_of (size_of s)) lits.new.items) }
+    ensures in_range { OnOk result (AreInRange (atom_count (size_of s)) lits.new.items) }
 {
     for o in 0..s.operations {
         let op = OpId(o);

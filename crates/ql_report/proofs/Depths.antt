@@ -18,8 +18,8 @@ use Rattle.ql_value.specs.declared.value.Value.{Value}
 use Rattle.ql_value.specs.declared.value.Value.TheVariants.{Unit, Int, Bool as Truth, Text, Set, Map}
 use Rattle.serde_json.specs.Data.{Data, Members, member, depth, items_depth, members_depth}
 use Rattle.serde_json.specs.View.{items_of}
-use Rattle.ql_report.specs.JsonRuns.{effect_data, effects_from, levels_data, member_data, op_level, run_data, txn_level}
-use Rattle.ql_report.specs.JsonValues.{entry_data, id_data, listed, payload_data, scalar_data, text_data, value_data}
+use Rattle.ql_report.specs.JsonRuns.{effect_data, effects_from, levels_data, member_data, op_level_data, run_data, txn_level_data}
+use Rattle.ql_report.specs.JsonValues.{entry_data, id_data, list_data, payload_data, scalar_data, text_data, value_data}
 
 abbrev NestsIn : ℕ → Data → Type 0
 NestsIn n d = depth d ≤ n
@@ -30,7 +30,7 @@ NestIn n ds = items_depth (items_of ds) ≤ n
 one_more : (n : ℕ) (d : Data) (ds : List Data) → NestsIn n d → NestIn n ds → NestIn n (d ∷ ds)
 one_more n d ds first rest = omega (arith, first, rest)
 
-in_list : (n : ℕ) (ds : List Data) → NestIn n ds → NestsIn (suc n) (listed ds)
+in_list : (n : ℕ) (ds : List Data) → NestIn n ds → NestsIn (suc n) (list_data ds)
 in_list n ds all = omega (arith, all)
 
 each_nests : {X : Type 0} (n : ℕ) (f : X → Data) → ((x : X) → NestsIn n (f x)) → (xs : List X) → NestIn n (map f xs)
@@ -61,7 +61,7 @@ value_nests (Text t) = omega arith
 value_nests (Set s) = let all = in_list 0 (map scalar_data s) (each_nests 0 scalar_data scalar_nests s) in omega (arith, all)
 value_nests (Map m) = in_list 1 (map entry_data m) (each_nests 1 entry_data entry_nests m)
 
-values_nest : (vs : List Value) → NestsIn 3 (listed (map value_data vs))
+values_nest : (vs : List Value) → NestsIn 3 (list_data (map value_data vs))
 values_nest vs = in_list 2 (map value_data vs) (each_nests 2 value_data value_nests vs)
 
 payload_nests : (p : Payload) → NestsIn 3 (payload_data p)
@@ -89,13 +89,13 @@ unfolding effects_from
 effects_nest p objects id [] = omega arith
 effects_nest p objects id (e ∷ es) = one_more 4 (effect_data p objects id e) (effects_from p objects (id + 1) es) (effect_nests p objects id e) (effects_nest p objects (id + 1) es)
 
-pub levels_nest : (p : Program) (levels : LevelLists) → NestsIn 2 (listed (levels_data p levels))
+pub levels_nest : (p : Program) (levels : LevelLists) → NestsIn 2 (list_data (levels_data p levels))
 levels_nest p levels =
-    let ops = upto (length (all_ops p.types)) (λ o. op_level p levels o ∷ []) in
-    let txns = upto (length p.txns) (λ d. txn_level p levels d ∷ []) in
-    in_list 1 (levels_data p levels) (both_nest 1 ops txns (upto_nests 1 (length (all_ops p.types)) (op_level p levels) (λ o. omega arith)) (upto_nests 1 (length p.txns) (txn_level p levels) (λ d. omega arith)))
+    let ops = upto (length (all_ops p.types)) (λ o. op_level_data p levels o ∷ []) in
+    let txns = upto (length p.txns) (λ d. txn_level_data p levels d ∷ []) in
+    in_list 1 (levels_data p levels) (both_nest 1 ops txns (upto_nests 1 (length (all_ops p.types)) (op_level_data p levels) (λ o. omega arith)) (upto_nests 1 (length p.txns) (txn_level_data p levels) (λ d. omega arith)))
 
-pub texts_nest : {X : Type 0} (text_of : X → List ℕ) (xs : List X) → NestsIn 1 (listed (map (λ x. text_data (text_of x)) xs))
+pub texts_nest : {X : Type 0} (text_of : X → List ℕ) (xs : List X) → NestsIn 1 (list_data (map (λ x. text_data (text_of x)) xs))
 texts_nest text_of xs = in_list 0 (map (λ x. text_data (text_of x)) xs) (each_nests 0 (λ x. text_data (text_of x)) (λ x. omega arith) xs)
 
 pub run_nests : (p : Program) (objects : List (List ℕ)) (levels : LevelLists) (replies : List Reply) (x : List Effect) → depth (run_data p objects levels replies x) ≤ 127

@@ -20,8 +20,8 @@ use Rattle.serde_json.specs.Data.{Data, number}
 use Rattle.serde_json.specs.Find.{of_integer}
 use Rattle.serde_json.specs.View.{items_of}
 use Rattle.serde_json.specs.Written.{has_float, items_have_float}
-use Rattle.ql_report.specs.JsonRuns.{effect_data, effects_from, levels_data, member_data, op_level, run_data, txn_level}
-use Rattle.ql_report.specs.JsonValues.{entry_data, id_data, listed, payload_data, scalar_data, text_data, value_data}
+use Rattle.ql_report.specs.JsonRuns.{effect_data, effects_from, levels_data, member_data, op_level_data, run_data, txn_level_data}
+use Rattle.ql_report.specs.JsonValues.{entry_data, id_data, list_data, payload_data, scalar_data, text_data, value_data}
 
 abbrev pub HasNone : Data → Type 0
 HasNone d = has_float d ≡ false
@@ -84,35 +84,35 @@ member_none p (Inside run decl) = refl
 
 pub effect_none : (p : Program) (objects : List (List ℕ)) (id : ℕ) (e : Effect) → HasNone (effect_data p objects id e)
 effect_none p objects id e =
-    let seen : Bool = has_float (listed (map id_data e.seen)) || false in
+    let seen : Bool = has_float (list_data (map id_data e.seen)) || false in
     let in_txn : Bool = has_float (member_data p e.member) || seen in
     let emitted : Bool = has_float (payload_data e.payload) || in_txn in
-    let asked : Bool = has_float (listed (map value_data e.args)) || emitted in
+    let asked : Bool = has_float (list_data (map value_data e.args)) || emitted in
     neither (has_float (value_data e.answer)) asked (value_none e.answer)
-    (neither (has_float (listed (map value_data e.args))) emitted (each_none value_data value_none e.args)
+    (neither (has_float (list_data (map value_data e.args))) emitted (each_none value_data value_none e.args)
     (neither (has_float (payload_data e.payload)) in_txn (payload_none e.payload)
     (neither (has_float (member_data p e.member)) seen (member_none p e.member)
-    (neither (has_float (listed (map id_data e.seen))) false (each_none id_data (λ n. refl) e.seen) refl))))
+    (neither (has_float (list_data (map id_data e.seen))) false (each_none id_data (λ n. refl) e.seen) refl))))
 
 effects_none : (p : Program) (objects : List (List ℕ)) (id : ℕ) (x : List Effect) → HaveNone (effects_from p objects id x)
 unfolding effects_from
 effects_none p objects id [] = refl
 effects_none p objects id (e ∷ es) = neither (has_float (effect_data p objects id e)) (items_have_float (items_of (effects_from p objects (id + 1) es))) (effect_none p objects id e) (effects_none p objects (id + 1) es)
 
-pub levels_none : (p : Program) (levels : LevelLists) → HasNone (listed (levels_data p levels))
+pub levels_none : (p : Program) (levels : LevelLists) → HasNone (list_data (levels_data p levels))
 levels_none p levels =
-    let ops = upto (length (all_ops p.types)) (λ o. op_level p levels o ∷ []) in
-    let txns = upto (length p.txns) (λ d. txn_level p levels d ∷ []) in
-    both_none ops txns (upto_none (length (all_ops p.types)) (op_level p levels) (λ o. refl)) (upto_none (length p.txns) (txn_level p levels) (λ d. refl))
+    let ops = upto (length (all_ops p.types)) (λ o. op_level_data p levels o ∷ []) in
+    let txns = upto (length p.txns) (λ d. txn_level_data p levels d ∷ []) in
+    both_none ops txns (upto_none (length (all_ops p.types)) (op_level_data p levels) (λ o. refl)) (upto_none (length p.txns) (txn_level_data p levels) (λ d. refl))
 
-pub texts_none : {X : Type 0} (text_of : X → List ℕ) (xs : List X) → HasNone (listed (map (λ x. text_data (text_of x)) xs))
+pub texts_none : {X : Type 0} (text_of : X → List ℕ) (xs : List X) → HasNone (list_data (map (λ x. text_data (text_of x)) xs))
 texts_none text_of xs = each_none (λ x. text_data (text_of x)) (λ x. refl) xs
 
 pub run_none : (p : Program) (objects : List (List ℕ)) (levels : LevelLists) (replies : List Reply) (x : List Effect) → has_float (run_data p objects levels replies x) ≡ false
 run_none p objects levels replies x =
     let text_of : Reply → Data = λ r. text_data (joined (reply_fields x r)) in
-    let said : Bool = has_float (listed (map text_of replies)) || false in
-    let least : Bool = has_float (listed (levels_data p levels)) || said in
-    neither (has_float (listed (effects_from p objects 1 x))) least (effects_none p objects 1 x)
-    (neither (has_float (listed (levels_data p levels))) said (levels_none p levels)
-    (neither (has_float (listed (map text_of replies))) false (texts_none (λ r. joined (reply_fields x r)) replies) refl))
+    let said : Bool = has_float (list_data (map text_of replies)) || false in
+    let least : Bool = has_float (list_data (levels_data p levels)) || said in
+    neither (has_float (list_data (effects_from p objects 1 x))) least (effects_none p objects 1 x)
+    (neither (has_float (list_data (levels_data p levels))) said (levels_none p levels)
+    (neither (has_float (list_data (map text_of replies))) false (texts_none (λ r. joined (reply_fields x r)) replies) refl))

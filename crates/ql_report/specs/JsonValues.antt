@@ -12,8 +12,8 @@ use Rattle.ql_exec.specs.declared.effect.Payload.{Payload}
 use Rattle.ql_exec.specs.declared.effect.Payload.TheVariants.{Nothing, Emitted}
 
 -- a list
-abbrev pub listed : List Data → Data
-listed ds = array (items_of ds)
+abbrev pub list_data : List Data → Data
+list_data ds = array (items_of ds)
 
 -- a text; what isn't UTF-8 is replaced, and ASCII always is UTF-8
 abbrev pub text_data : List ℕ → Data
@@ -29,17 +29,17 @@ scalar_data (scalar.Text t) = text_data t
 
 -- a key and its value
 abbrev pub entry_data : Scalar × Scalar → Data
-entry_data entry = listed (scalar_data entry.0 ∷ scalar_data entry.1 ∷ [])
+entry_data entry = list_data (scalar_data entry.0 ∷ scalar_data entry.1 ∷ [])
 
 abbrev pub value_data : Value → Data
 value_data Unit = null
 value_data (Int z) = number (of_integer z)
 value_data (Bool b) = boolean b
 value_data (Text t) = text_data t
-value_data (Set s) = listed (map scalar_data s)
-value_data (Map m) = listed (map entry_data m)
+value_data (Set s) = list_data (map scalar_data s)
+value_data (Map m) = list_data (map entry_data m)
 
 -- what an effect carries
 abbrev pub payload_data : Payload → Data
 payload_data Nothing = null
-payload_data (Emitted vs) = listed (map value_data vs)
+payload_data (Emitted vs) = list_data (map value_data vs)

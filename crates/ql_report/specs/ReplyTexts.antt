@@ -44,9 +44,9 @@ reply_fields x (reply.Refused why) = codes "refused" ∷ decimal (why_number why
 
 -- ---- what can be written: an answered call made an effect of the execution
 
-abbrev pub IsAnswered : List Effect → Reply → Type 0
-IsAnswered x (reply.Ok e) = (1 ≤ e.0) × (e.0 ≤ length x)
-IsAnswered x _ = Unit {0}
+abbrev pub IsAnsweredBy : List Effect → Reply → Type 0
+IsAnsweredBy x (reply.Ok e) = (1 ≤ e.0) × (e.0 ≤ length x)
+IsAnsweredBy x _ = Unit {0}
 
 abbrev pub AreAnswered : List Effect → List Reply → Type 0
-AreAnswered x replies = All (IsAnswered x) replies
+AreAnswered x replies = All (IsAnsweredBy x) replies

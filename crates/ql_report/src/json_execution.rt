@@ -4,7 +4,7 @@ ghost use Rattle.serde_json.specs.Data.{put as with_member};
 ghost use Rattle.serde_json.specs.View.{members_view, view};
 ghost use Rattle.ql_typing.specs.Names.{op_name};
 ghost use Rattle.ql_report.specs.JsonRuns.{effect_data, effects_from, member_data};
-ghost use Rattle.ql_report.specs.JsonValues.{id_data, listed, payload_data, text_data, value_data};
+ghost use Rattle.ql_report.specs.JsonValues.{id_data, list_data, payload_data, text_data, value_data};
 
 use crate::json_values::{ids, payload, push_text, text, value, values};
 use ql_base::{EffId, Names, NoMemory};
@@ -22,7 +22,7 @@ pub fn json_effects(
 ) -> Result<Json, NoMemory>
     requires { AreNamed t.now.program (length objects.now) x.now }
     ensures { IfOk result
-        (λ json. view json ≡ listed (effects_from t.now.program objects.now 1 x.now)) }
+        (λ json. view json ≡ list_data (effects_from t.now.program objects.now 1 x.now)) }
 {
     let mut list = Vec::new(alloc);
     for k in 0..x.len() {
@@ -65,7 +65,7 @@ fn put_call(
         with_member (codes "op") (text_data (op_name t.now.program e.now.op.0))
         (with_member (codes "object") (text_data (object_name objects.now e.now.object.0))
         (with_member (codes "id") (id_data id.0)
-        (with_member (codes "args") (listed (map value_data e.now.args))
+        (with_member (codes "args") (list_data (map value_data e.now.args))
         (with_member (codes "answer") (value_data e.now.answer)
         (members_view members.old.entries)))))) }
 {
@@ -96,7 +96,7 @@ fn put_circumstances(
 ) -> Result<(), NoMemory>
     requires { IsDeclared t.now.program e.now.member }
     ensures { OnOk result (members_view members.new.entries ≡
-        with_member (codes "vis") (listed (map id_data e.now.seen))
+        with_member (codes "vis") (list_data (map id_data e.now.seen))
         (with_member (codes "txn") (member_data t.now.program e.now.member)
         (with_member (codes "stamp") (id_data e.now.stamp)
         (with_member (codes "session") (id_data e.now.session.0)

@@ -2,8 +2,8 @@ ghost use Rattle.std.specs.Prelude.{◌≡◌, ◌∷◌, [], ◌++◌, ◌<◌,
 ghost use Rattle.ql_base.specs.Ranges.{upto};
 ghost use Rattle.ql_typing.specs.Operations.{all_ops};
 ghost use Rattle.serde_json.specs.View.{view};
-ghost use Rattle.ql_report.specs.JsonRuns.{level_data, levels_data, op_level, txn_level};
-ghost use Rattle.ql_report.specs.JsonValues.{listed};
+ghost use Rattle.ql_report.specs.JsonRuns.{level_data, levels_data, op_level_data, txn_level_data};
+ghost use Rattle.ql_report.specs.JsonValues.{list_data};
 
 use crate::json_values::push_text;
 use ql_base::{DeclId, NoMemory, OpId};
@@ -16,7 +16,7 @@ use std::alloc::Global;
 pub(crate) fn levels(alloc: Global, t: &Typed, l: &Levels) -> Result<Json, NoMemory>
     requires ops { length l.now.ops ≡ length (all_ops t.now.program.types) }
     requires txns { length l.now.txns ≡ length t.now.program.txns }
-    ensures { IfOk result (λ json. view json ≡ listed (levels_data t.now.program l.now)) }
+    ensures { IfOk result (λ json. view json ≡ list_data (levels_data t.now.program l.now)) }
 {
     let mut list = Vec::new(alloc);
     push_ops(alloc, &mut list, t, l)?;
@@ -29,7 +29,7 @@ fn push_ops(alloc: Global, list: &mut Vec<Json>, t: &Typed, l: &Levels) -> Resul
     ensures { OnOk result
         (map view list.new.items ≡ map view list.old.items
         ++ upto (length (all_ops t.now.program.types))
-        (λ o. op_level t.now.program l.now o ∷ [])) }
+        (λ o. op_level_data t.now.program l.now o ∷ [])) }
 {
     for o in 0..t.ops() {
         let op = OpId(o);
@@ -43,7 +43,7 @@ fn push_txns(alloc: Global, list: &mut Vec<Json>, t: &Typed, l: &Levels) -> Resu
     requires { length l.now.txns ≡ length t.now.program.txns }
     ensures { OnOk result
         (map view list.new.items ≡ map view list.old.items
-        ++ upto (length t.now.program.txns) (λ d. txn_level t.now.program l.now d ∷ [])) }
+        ++ upto (length t.now.program.txns) (λ d. txn_level_data t.now.program l.now d ∷ [])) }
 {
     for d in 0..t.txns() {
         let decl = DeclId(d);

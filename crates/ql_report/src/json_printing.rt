@@ -9,7 +9,7 @@ ghost use Rattle.serde_json.specs.View.{view};
 ghost use Rattle.serde_json.specs.Written.{comma_if, compact_text, has_float};
 ghost use Rattle.ql_report.specs.JsonRuns.{effect_data, effects_from, levels_data};
 ghost use Rattle.ql_report.specs.JsonReading.{ReadsBack};
-ghost use Rattle.ql_report.specs.JsonValues.{listed, text_data};
+ghost use Rattle.ql_report.specs.JsonValues.{list_data, text_data};
 
 use crate::json_execution::effect;
 use crate::json_levels::levels;
@@ -34,9 +34,9 @@ pub(crate) fn push_effects(
     requires { AreNamed t.now.program (length objects.now) x.now }
     ensures text { OnOk result
         (out.new.items ≡ out.old.items
-        ++ compact_text (listed (effects_from t.now.program objects.now 1 x.now))) }
+        ++ compact_text (list_data (effects_from t.now.program objects.now 1 x.now))) }
     ensures again { OnOk result
-        (ReadsBack (listed (effects_from t.now.program objects.now 1 x.now))) }
+        (ReadsBack (list_data (effects_from t.now.program objects.now 1 x.now))) }
 {
     out.push(b'[')?;
     for k in 0..x.len() {
@@ -87,8 +87,8 @@ pub(crate) fn push_levels(
     requires ops { length l.now.ops ≡ length (all_ops t.now.program.types) }
     requires txns { length l.now.txns ≡ length t.now.program.txns }
     ensures text { OnOk result
-        (out.new.items ≡ out.old.items ++ compact_text (listed (levels_data t.now.program l.now))) }
-    ensures again { OnOk result (ReadsBack (listed (levels_data t.now.program l.now))) }
+        (out.new.items ≡ out.old.items ++ compact_text (list_data (levels_data t.now.program l.now))) }
+    ensures again { OnOk result (ReadsBack (list_data (levels_data t.now.program l.now))) }
 {
     let json = levels(alloc, t, l)?;
     push_json(alloc, out, &json)
@@ -104,9 +104,9 @@ pub(crate) fn push_replies(
     requires { AreAnswered x.now replies.now }
     ensures text { OnOk result
         (out.new.items ≡ out.old.items ++ compact_text
-        (listed (map (λ r. text_data (joined (reply_fields x.now r))) replies.now))) }
+        (list_data (map (λ r. text_data (joined (reply_fields x.now r))) replies.now))) }
     ensures again { OnOk result
-        (ReadsBack (listed (map (λ r. text_data (joined (reply_fields x.now r))) replies.now))) }
+        (ReadsBack (list_data (map (λ r. text_data (joined (reply_fields x.now r))) replies.now))) }
 {
     let json = reply_texts(alloc, replies, x)?;
     push_json(alloc, out, &json)

@@ -5,7 +5,7 @@ ghost use Rattle.serde_json.specs.View.{view};
 ghost use Rattle.ql_report.specs.JsonValues.{
   entry_data,
   id_data,
-  listed,
+  list_data,
   payload_data,
   scalar_data,
   text_data,
@@ -60,7 +60,7 @@ pub fn payload(alloc: Global, payload: &Payload) -> Result<Json, NoMemory>
 
 /// Values in order.
 pub fn values(alloc: Global, values: &[Value]) -> Result<Json, NoMemory>
-    ensures { IfOk result (λ json. view json ≡ listed (map value_data values.now)) }
+    ensures { IfOk result (λ json. view json ≡ list_data (map value_data values.now)) }
 {
     let mut list = Vec::with_capacity(alloc, values.len())?;
     for k in 0..values.len() {
@@ -71,7 +71,7 @@ pub fn values(alloc: Global, values: &[Value]) -> Result<Json, NoMemory>
 
 /// Ids in order.
 pub fn ids(alloc: Global, ids: &[u32]) -> Result<Json, NoMemory>
-    ensures { IfOk result (λ json. view json ≡ listed (map id_data ids.now)) }
+    ensures { IfOk result (λ json. view json ≡ list_data (map id_data ids.now)) }
 {
     let mut list = Vec::with_capacity(alloc, ids.len())?;
     for k in 0..ids.len() {
@@ -81,7 +81,7 @@ pub fn ids(alloc: Global, ids: &[u32]) -> Result<Json, NoMemory>
 }
 
 fn scalars(alloc: Global, scalars: &[Scalar]) -> Result<Json, NoMemory>
-    ensures { IfOk result (λ json. view json ≡ listed (map scalar_data scalars.now)) }
+    ensures { IfOk result (λ json. view json ≡ list_data (map scalar_data scalars.now)) }
 {
     let mut list = Vec::with_capacity(alloc, scalars.len())?;
     for k in 0..scalars.len() {
@@ -91,7 +91,7 @@ fn scalars(alloc: Global, scalars: &[Scalar]) -> Result<Json, NoMemory>
 }
 
 fn pairs(alloc: Global, entries: &[(Scalar, Scalar)]) -> Result<Json, NoMemory>
-    ensures { IfOk result (λ json. view json ≡ listed (map entry_data entries.now)) }
+    ensures { IfOk result (λ json. view json ≡ list_data (map entry_data entries.now)) }
 {
     let mut list = Vec::with_capacity(alloc, entries.len())?;
     for k in 0..entries.len() {
@@ -109,7 +109,7 @@ fn entry(alloc: Global, entry: &(Scalar, Scalar)) -> Result<Json, NoMemory>
 
 /// The list of two elements.
 pub fn pair(first: Json, second: Json, alloc: Global) -> Result<Json, NoMemory>
-    ensures { IfOk result (λ json. view json ≡ listed (view first ∷ view second ∷ [])) }
+    ensures { IfOk result (λ json. view json ≡ list_data (view first ∷ view second ∷ [])) }
 {
     let mut list = Vec::with_capacity(alloc, 2)?;
     list.push(first)?;

@@ -2,7 +2,7 @@ ghost use Rattle.std.specs.Prelude.{◌≡◌, ◌++◌, ◌∷◌, [], ◌≤�
 ghost use Rattle.ql_lines.specs.Texts.{joined};
 ghost use Rattle.ql_report.specs.ReplyTexts.{
   AreAnswered,
-  IsAnswered,
+  IsAnsweredBy,
   answer_text,
   reply_fields,
   why_number,
@@ -37,7 +37,7 @@ fn push_event(
     reply: &Reply,
     x: &Execution,
 ) -> Result<(), NoMemory>
-    requires { IsAnswered x.now reply.now }
+    requires { IsAnsweredBy x.now reply.now }
     ensures { OnOk result
         (out.new.items ≡ out.old.items
         ++ (joined (numbered_reply_fields x.now number reply.now) ++ 10 ∷ [])) }
@@ -50,7 +50,7 @@ fn push_event(
 
 /// The text of a reply. An answered call shows the answer of its effect in the execution.
 pub fn print_reply(alloc: Global, reply: &Reply, x: &Execution) -> Result<Vec<u8>, NoMemory>
-    requires { IsAnswered x.now reply.now }
+    requires { IsAnsweredBy x.now reply.now }
     ensures { IfOk result (λ text. text.items ≡ joined (reply_fields x.now reply.now)) }
 {
     let mut text = Vec::new(alloc);
@@ -59,7 +59,7 @@ pub fn print_reply(alloc: Global, reply: &Reply, x: &Execution) -> Result<Vec<u8
 }
 
 fn push_reply(out: &mut Vec<u8>, reply: &Reply, x: &Execution) -> Result<(), NoMemory>
-    requires { IsAnswered x.now reply.now }
+    requires { IsAnsweredBy x.now reply.now }
     ensures { OnOk result (out.new.items ≡ out.old.items ++ joined (reply_fields x.now reply.now)) }
 {
     match reply {

@@ -28,7 +28,8 @@ use Rattle.ql_machine.specs.Promised.{IsUnderName}
 use Rattle.ql_machine.proofs.Formulas.{level_holds, txn_level_holds}
 use Rattle.ql_machine.proofs.Growth.{effects-pass}
 use Rattle.ql_machine.proofs.Runs.{kept}
-use Rattle.ql_running.specs.Stores.{IsScheduleFor, is_of_type, promises_of, rules_of}
+use Rattle.ql_running.specs.Stores.{IsScheduleFor, is_of_type, rules_of}
+use Rattle.ql_store.specs.Levels.{promises_of}
 
 -- ---- goals by their numbers
 

@@ -29,7 +29,7 @@ use Rattle.ql_machine.specs.Promised.{asks}
 use Rattle.ql_machine.proofs.Keeping.{nothing-there}
 use Rattle.ql_machine.proofs.Lists.{open-cases, without-cases}
 use Rattle.ql_report.specs.EffectTexts.{AreNamed, IsDeclared}
-use Rattle.ql_report.specs.ReplyTexts.{AreAnswered, IsAnswered}
+use Rattle.ql_report.specs.ReplyTexts.{AreAnswered, IsAnsweredBy}
 use Rattle.ql_runs.specs.Keeping.{FitsSchedule}
 use Rattle.ql_schedule.specs.Guarantees.{AreFit, FitsEvent, IsSchedule}
 use Rattle.ql_schedule.specs.declared.schedule.Schedule.{Schedule}
@@ -39,7 +39,7 @@ use Rattle.ql_typing.proofs.Flat.{length-kinds}
 -- ---- replies
 
 -- an effect of an execution is one of each longer one
-answered-later : (x y : List Effect) (r : Reply) → length x ≤ length y → IsAnswered x r → IsAnswered y r
+answered-later : (x y : List Effect) (r : Reply) → length x ≤ length y → IsAnsweredBy x r → IsAnsweredBy y r
 answered-later x y (reply.Ok e) less h = (h.0, omega (arith, h.1, less))
 answered-later x y reply.Begun less h = tt
 answered-later x y (reply.Committed ids) less h = tt
@@ -60,7 +60,7 @@ answered-later x y (reply.Refused why) less h = tt
 
 -- what a step does: the execution is no shorter, and an answered call made an effect of it
 abbrev Answers : Machine → Machine → Reply → Type 0
-Answers s after r = (length s.effects ≤ length after.effects) × IsAnswered after.effects r
+Answers s after r = (length s.effects ≤ length after.effects) × IsAnsweredBy after.effects r
 
 same : (s : Machine) → length s.effects ≤ length s.effects
 same s = omega arith
@@ -104,7 +104,7 @@ answers-step rules s _ _ _ (joins_copy near less) = (same s, tt)
 answers-step rules s _ _ _ (joins_bare near ids less are) = (same s, tt)
 
 answers-leads : (rules : Rules) (s : Machine) (events : List Event) (replies : List Reply) (last : Machine) → Leads rules s events replies last
-    → (length s.effects ≤ length last.effects) × AllByRecursion (IsAnswered last.effects) replies
+    → (length s.effects ≤ length last.effects) × AllByRecursion (IsAnsweredBy last.effects) replies
 answers-leads rules _ _ _ _ (stop s) = (same s, tt)
 answers-leads rules _ _ _ _ (step s e next r events replies last is later) =
     let here = answers-step rules s e next r is in
@@ -112,7 +112,7 @@ answers-leads rules _ _ _ _ (step s e next r events replies last is later) =
     (omega (arith, here.0, more.0), (answered-later next.effects last.effects r more.0 here.1, more.1))
 
 pub run-answers : (rules : Rules) (n : ℕ) (events : List Event) (replies : List Reply) (last : Machine) → IsRun rules n events replies last → AreAnswered last.effects replies
-run-answers rules n events replies last run = All-from_recursion (IsAnswered last.effects) replies (answers-leads rules (empty n) events replies last run).1
+run-answers rules n events replies last run = All-from_recursion (IsAnsweredBy last.effects) replies (answers-leads rules (empty n) events replies last run).1
 
 -- ---- declared transactions
 

@@ -16,7 +16,7 @@ use Rattle.ql_machine.specs.Runs.{IsRun}
 use Rattle.ql_schedule.specs.declared.fault.SchedFault.{SchedFault}
 use Rattle.ql_schedule.specs.declared.schedule.Schedule.{Schedule}
 use Rattle.ql_schedule.specs.Files.{IsFirstFault, IsScheduleFile}
-use Rattle.ql_running.specs.Soundness.{IsSound}
+use Rattle.ql_running.specs.Soundness.{IsSoundRun}
 use Rattle.ql_running.specs.ScheduleFaults.{schedule_fault_text}
 
 -- how a run is written: which texts show its program, the names of its objects, the levels, the replies and the execution
@@ -30,7 +30,7 @@ pub record PrintsRun (format : Format) (p : Program) (levels : LevelLists) (s : 
   pub last : Machine
   pub run : IsRun (rules_of p levels) s.replicas s.events replies last
   pub printed : format p s.objects levels replies last.effects text
-  pub sound : IsSound p last.effects
+  pub sound : IsSoundRun p last.effects
 
 -- The bytes of a source and of a schedule, and the text of the schedule's run at the least levels of the source's program.
 pub record ReportsRun (format : Format) (source file text : List ℕ) : Type 0 where

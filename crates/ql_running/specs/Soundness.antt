@@ -26,7 +26,7 @@ module _ (p : Program) (x : List Effect) where
   AreFolds = (a : ℕ) (e : Effect) → effect_at x a ≡ Some e
       → answered_of p.types e.op.0 e.args (seen_in_order x e.seen) ≡ record { answer = e.answer; payload = e.payload }
 
-  pub record IsSound : Type 0 where
+  pub record IsSoundRun : Type 0 where
     pub operations : MeetOperations
     pub transactions : MeetTransactions
     pub answers : AreFolds

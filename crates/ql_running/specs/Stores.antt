@@ -1,24 +1,16 @@
 -- The written machine of a program at some levels, and schedules for it.
-use Rattle.std.specs.Prelude.{◌≡◌, ℕ, Bool, true, ◌&&◌, nat_eq, nat_lt, List, length, slice_index, slice_index_or}
+use Rattle.std.specs.Prelude.{◌≡◌, ℕ, Bool, true, ◌&&◌, nat_eq, nat_lt, List, length, slice_index}
 use Rattle.std.specs.List.{list_all}
 use Rattle.ql_base.specs.declared.ids.ObjId.{ObjId}
 use Rattle.ql_base.specs.declared.ids.OpId.{OpId}
 use Rattle.ql_lang.specs.declared.program.Program.{Program}
 use Rattle.ql_levels.specs.Lists.{LevelLists}
-use Rattle.ql_levels.specs.declared.level.Level.TheVariants.{Strong}
-use Rattle.ql_levels.specs.declared.level.TxnLevel.TheVariants.{Rr}
 use Rattle.ql_typing.specs.Operations.{op_kinds, uses_op}
 use Rattle.ql_eval.specs.Folds.{answered_of}
 use Rattle.ql_machine.specs.declared.event.Event.{Event}
-use Rattle.ql_machine.specs.Rules.{Promises, Rules}
+use Rattle.ql_machine.specs.Rules.{Rules}
+use Rattle.ql_store.specs.Levels.{promises_of}
 use Rattle.ql_machine.specs.Promised.{asks}
-
--- a level for each operation and each declared transaction; the highest one where none is listed
-abbrev pub promises_of : LevelLists → Promises
-promises_of levels = record {
-  level = λ op. slice_index_or levels.ops op.0 Strong;
-  txn_level = λ decl. slice_index_or levels.txns decl.0 Rr;
-}
 
 -- the program's operations at these levels, answered by folding the effects that they see
 abbrev pub rules_of : Program → LevelLists → Rules

@@ -8,7 +8,7 @@ ghost use Rattle.ql_machine.specs.State.{Machine};
 ghost use Rattle.ql_machine.specs.Runs.{IsRun};
 ghost use Rattle.ql_schedule.specs.declared.schedule.Schedule.{Schedule};
 ghost use Rattle.ql_schedule.specs.Guarantees.{IsSchedule};
-ghost use Rattle.ql_running.specs.Soundness.{IsSound};
+ghost use Rattle.ql_running.specs.Soundness.{IsSoundRun};
 
 use crate::headline::runs_meet_contracts;
 
@@ -17,7 +17,7 @@ use crate::headline::runs_meet_contracts;
 pub fn runs_are_sound()
     ensures { (p : Program) (levels : LevelLists) (s : Schedule) (replies : List Reply)
         (last : Machine) → AreLevelsOf p levels → IsSchedule p s
-        → IsRun (rules_of p levels) s.replicas s.events replies last → IsSound p last.effects }
+        → IsRun (rules_of p levels) s.replicas s.events replies last → IsSoundRun p last.effects }
 {
     runs_meet_contracts();
 }

@@ -6,7 +6,7 @@ ghost use Rattle.ql_report.specs.EffectTexts.{AreNamed};
 ghost use Rattle.ql_report.specs.ReplyTexts.{AreAnswered};
 ghost use Rattle.ql_runs.specs.Keeping.{FitsSchedule};
 ghost use Rattle.ql_schedule.specs.Guarantees.{IsSchedule};
-ghost use Rattle.ql_running.specs.Soundness.{IsSound};
+ghost use Rattle.ql_running.specs.Soundness.{IsSoundRun};
 
 use crate::law::runs_are_sound;
 use ql_base::NoMemory;
@@ -29,7 +29,7 @@ pub fn sound_run(
     ensures run { IfOk result
         (λ run. IsRun (rules_of t.now.program levels.now) schedule.replicas schedule.events
         run.replies.items run.store.machine) }
-    ensures sound { IfOk result (λ run. IsSound t.now.program run.store.machine.effects) }
+    ensures sound { IfOk result (λ run. IsSoundRun t.now.program run.store.machine.effects) }
     ensures objects { IfOk result (λ run. run.objects ≡ schedule.objects) }
     ensures replicas { IfOk result
         (λ run. length run.store.machine.received

@@ -10,15 +10,15 @@ use Rattle.std.specs.Option.{option_map}
 use Rattle.ql_cnf.specs.Literals.{IsAscendingByVariable}
 use Rattle.ql_cnf.specs.Satisfaction.{ClauseList, AreInRange}
 use Rattle.ql_cnf.specs.declared.lit.Lit.{Lit}
-use Rattle.ql_refute.specs.Marks.{marked, has_variable}
-use Rattle.ql_refute.specs.Partial.{Partial, nothing, with_all_false, is_open, reading}
+use Rattle.ql_refute.specs.Marks.{assignment_of_marks, has_variable}
+use Rattle.ql_refute.specs.Partial.{Partial, nothing, with_all_false, is_not_false, reading}
 use Rattle.ql_refute.specs.Verdict.{numbered, hinted, hints_fault}
 use Rattle.ql_refute.specs.declared.marks.Reading.TheVariants.{AllFalse, Forces}
 use Rattle.ql_refute.specs.declared.refutation.Hint.{Hint}
 use Rattle.ql_refute.specs.declared.refutation.Hint.TheVariants.{Given, Earlier}
 use Rattle.ql_refute.specs.declared.refutation.Line.{Line}
 use Rattle.ql_refute.proofs.Steps.{from_reading}
-use Rattle.ql_sat.specs.Answer.{IsNumbered, IsNumberedLine}
+use Rattle.ql_sat.specs.Answer.{IsHintNumbered, IsNumberedLine}
 use Rattle.ql_sat.specs.Trail.{assigned_from, IsTrailStep, IsTrail, IsSearching, IsFalseClause, is_seen, NoneSeen, NothingSeen, SeenHaveValues, IsDerived, IsAnalysis}
 use Rattle.ql_sat.specs.declared.trail.Step.{Step}
 use Rattle.ql_sat.proofs.GoodLines.{pushed_good}
@@ -39,29 +39,29 @@ value_of_some None h = absurd (cc)
 value_of_some (Some b) h = (b, refl)
 
 -- in a false clause each variable has a value
-all_valued : (t : Partial) (d : List Lit) (v : ℕ) → filter (is_open t) d ≡ [] → has_variable d v ≡ true → is_some (t v) ≡ true
+all_valued : (t : Partial) (d : List Lit) (v : ℕ) → filter (is_not_false t) d ≡ [] → has_variable d v ≡ true → is_some (t v) ≡ true
 all_valued t [] v h e = absurd (cc)
-all_valued t (x ∷ xs) v h e = step (x.var == v) refl e (all_valued t xs v (head_fails (is_open t) x xs h).1)
+all_valued t (x ∷ xs) v h e = step (x.var == v) refl e (all_valued t xs v (head_fails (is_not_false t) x xs h).1)
   where
     step : (b : Bool) → (x.var == v) ≡ b → (b || has_variable xs v) ≡ true → (has_variable xs v ≡ true → is_some (t v) ≡ true) → is_some (t v) ≡ true
     step true f g ih =
         let same : x.var ≡ v = is_same x.var v f in
-        subst (λ (u : ℕ). is_some (t u) ≡ true) same (rw (closed_value (t x.var) x.positive (head_fails (is_open t) x xs h).0) refl)
+        subst (λ (u : ℕ). is_some (t u) ≡ true) same (rw (closed_value (t x.var) x.positive (head_fails (is_not_false t) x xs h).0) refl)
     step false f g ih = ih g
 
 -- in a clause that forces a literal each other variable has one
-others_valued : (t : Partial) (y : Lit) (d : List Lit) (v : ℕ) → filter (is_open t) d ≡ y ∷ [] → has_variable d v ≡ true → v ≢ y.var → is_some (t v) ≡ true
+others_valued : (t : Partial) (y : Lit) (d : List Lit) (v : ℕ) → filter (is_not_false t) d ≡ y ∷ [] → has_variable d v ≡ true → v ≢ y.var → is_some (t v) ≡ true
 others_valued t y [] v h e ne = absurd (cc)
-others_valued t y (x ∷ xs) v h e ne = elim (head_alone (is_open t) y x xs h) [
+others_valued t y (x ∷ xs) v h e ne = elim (head_alone (is_not_false t) y x xs h) [
   | inl f ↦ first f (x.var == v) refl e
   | inr f ↦ other f (x.var == v) refl e (λ g. others_valued t y xs v f.1 g ne)
 ]
   where
-    first : (is_open t x ≡ true) × (x ≡ y) × (filter (is_open t) xs ≡ []) → (b : Bool) → (x.var == v) ≡ b → (b || has_variable xs v) ≡ true → is_some (t v) ≡ true
+    first : (is_not_false t x ≡ true) × (x ≡ y) × (filter (is_not_false t) xs ≡ []) → (b : Bool) → (x.var == v) ≡ b → (b || has_variable xs v) ≡ true → is_some (t v) ≡ true
     first f true g k = absurd (ne (sym (is_same x.var v g) ∙ ap (λ (z : Lit). z.var) f.1))
     first f false g k = all_valued t xs v f.2 k
 
-    other : (is_open t x ≡ false) × (filter (is_open t) xs ≡ y ∷ []) → (b : Bool) → (x.var == v) ≡ b → (b || has_variable xs v) ≡ true → (has_variable xs v ≡ true → is_some (t v) ≡ true) → is_some (t v) ≡ true
+    other : (is_not_false t x ≡ false) × (filter (is_not_false t) xs ≡ y ∷ []) → (b : Bool) → (x.var == v) ≡ b → (b || has_variable xs v) ≡ true → (has_variable xs v ≡ true → is_some (t v) ≡ true) → is_some (t v) ≡ true
     other f true g k ih = subst (λ (u : ℕ). is_some (t u) ≡ true) (is_same x.var v g) (rw (closed_value (t x.var) x.positive f.0) refl)
     other f false g k ih = ih k
 
@@ -102,7 +102,7 @@ number_named {X} xs n x h = step (n == 0) refl h
     step true e g = absurd (cc)
     step false e g = let there = get_of xs (n - 1) x x g in let low : 1 ≤ n = grind (arith, nat_tests) in (low, omega (arith, low, there.0))
 
-hint_numbered : (c : ClauseList) (lines : List Line) (trail : List Step) (m : List ℕ) (h : Hint) (d : List Lit) → IsSearching c lines trail m → hinted c lines h ≡ Some d → IsNumbered h
+hint_numbered : (c : ClauseList) (lines : List Line) (trail : List Step) (m : List ℕ) (h : Hint) (d : List Lit) → IsSearching c lines trail m → hinted c lines h ≡ Some d → IsHintNumbered h
 hint_numbered c lines trail m (Given n) d searching names = let number = number_named c.clauses n d names in (number.0, omega (arith, number.1, searching.few))
 hint_numbered c lines trail m (Earlier n) d searching names = line_named (numbered lines n) refl names
   where
@@ -111,7 +111,7 @@ hint_numbered c lines trail m (Earlier n) d searching names = line_named (number
     line_named (Some line) is g = let number = number_named lines n line is in (number.0, omega (arith, number.1, searching.numbered.few))
 
 -- only the variables of the conflict are seen
-pub analysis_begin : (c : ClauseList) (lines : List Line) (trail : List Step) (m : List ℕ) (before seen : List Bool) (h : Hint) (d : List Lit) → IsSearching c lines trail m → hinted c lines h ≡ Some d → reading (marked m) d ≡ AllFalse → AreInRange c.variables d → NothingSeen before → ((v : ℕ) → is_seen seen v ≡ (has_variable d v || is_seen before v)) → IsAnalysis c lines trail (length trail) seen (h ∷ [])
+pub analysis_begin : (c : ClauseList) (lines : List Line) (trail : List Step) (m : List ℕ) (before seen : List Bool) (h : Hint) (d : List Lit) → IsSearching c lines trail m → hinted c lines h ≡ Some d → reading (assignment_of_marks m) d ≡ AllFalse → AreInRange c.variables d → NothingSeen before → ((v : ℕ) → is_seen seen v ≡ (has_variable d v || is_seen before v)) → IsAnalysis c lines trail (length trail) seen (h ∷ [])
 analysis_begin c lines trail m before seen h d searching names closed inside nothing_seen sees =
     let none_left : drop (length trail) trail ≡ [] = drop_all (length trail) trail (omega arith) in
     let closed_there : reading (assigned_from nothing trail) d ≡ AllFalse = subst (λ (p : Partial). reading p d ≡ AllFalse) searching.values closed in
@@ -171,7 +171,7 @@ analysis_step c lines xs ys s seen mid now hints h d trail reason names inside d
         step false f g = ((λ same. absurd (let yes : (v == s.lit.var) ≡ true = rw same (same_refl s.lit.var) in cc)), or_cases (has_variable d v) (is_seen seen v) (sym (sees v) ∙ g))
 
     before : reading (assigned_from nothing xs) d ≡ Forces s.lit → (v : ℕ) → v ≢ s.lit.var → has_variable d v ≡ true → (b : Bool) × (assigned_from nothing xs v ≡ Some b)
-    before forces v ne e = value_of_some (assigned_from nothing xs v) (others_valued (assigned_from nothing xs) s.lit d v (from_reading (assigned_from nothing xs) (filter (is_open (assigned_from nothing xs)) d) s.lit forces) e ne)
+    before forces v ne e = value_of_some (assigned_from nothing xs v) (others_valued (assigned_from nothing xs) s.lit d v (from_reading (assigned_from nothing xs) (filter (is_not_false (assigned_from nothing xs)) d) s.lit forces) e ne)
 
     valued : IsTrail c lines (assigned_from nothing xs) (s ∷ ys) → reading (assigned_from nothing xs) d ≡ Forces s.lit → (v : ℕ) → (v ≢ s.lit.var) × ((has_variable d v ≡ true) ⊎ (is_seen seen v ≡ true)) → (1 ≤ v) × (v ≤ c.variables) × (is_some (assigned_from nothing (xs ++ s ∷ ys) v) ≡ true)
     valued back forces v w = elim w.1 [
@@ -200,7 +200,7 @@ analysis_resolve c lines trail m q e seen mid now hints h d searching l reason n
       derived = subst (λ (later : List Step). IsDerived c lines trail later now (hints ++ h ∷ [])) (sym (drop-cons trail q e l)) parts.0;
       values = parts.1;
       none = subst (λ (later : List Step). NoneSeen now later) (sym (drop-cons trail q e l)) parts.2;
-      numbered = all_push IsNumbered hints h analysis.numbered (hint_numbered c lines trail m h d searching names);
+      numbered = all_push IsHintNumbered hints h analysis.numbered (hint_numbered c lines trail m h d searching names);
     }
   where
     whole : (t xs ys : List Step) (s : Step) → t ≡ xs ++ s ∷ ys → s.reason ≡ Some h → IsTrail c lines nothing t → IsDerived c lines t ys seen hints → SeenHaveValues c.variables t seen → NoneSeen seen ys → ((v : ℕ) → is_seen now v ≡ cond (v == s.lit.var) false (is_seen mid v)) → IsDerived c lines t (s ∷ ys) now (hints ++ h ∷ []) × SeenHaveValues c.variables t now × NoneSeen now (s ∷ ys)
@@ -225,7 +225,7 @@ in_range_small n [] small h = tt
 in_range_small n (x ∷ xs) small h = let first = h zero x (omega arith) in ((first.0, omega (arith, first.1, small)), in_range_small n xs small (λ k d l. h (suc k) d (omega arith)))
 
 -- a good line more
-pub searching_keep : (c : ClauseList) (lines : List Line) (trail : List Step) (m : List ℕ) (clause : List Lit) (hints : List Hint) → IsSearching c lines trail m → AreInRange c.variables clause → IsAscendingByVariable clause → hints_fault c lines (length lines + 1) hints (with_all_false nothing clause) ≡ None → AllByRecursion IsNumbered hints → length (lines ++ record { clause = clause; hints = hints } ∷ []) < 2 ^ 64 → IsSearching c (lines ++ record { clause = clause; hints = hints } ∷ []) trail m
+pub searching_keep : (c : ClauseList) (lines : List Line) (trail : List Step) (m : List ℕ) (clause : List Lit) (hints : List Hint) → IsSearching c lines trail m → AreInRange c.variables clause → IsAscendingByVariable clause → hints_fault c lines (length lines + 1) hints (with_all_false nothing clause) ≡ None → AllByRecursion IsHintNumbered hints → length (lines ++ record { clause = clause; hints = hints } ∷ []) < 2 ^ 64 → IsSearching c (lines ++ record { clause = clause; hints = hints } ∷ []) trail m
 searching_keep c lines trail m clause hints searching inside ascending none numbers few = record {
   few = searching.few;
   variables = searching.variables;
@@ -242,10 +242,10 @@ searching_keep c lines trail m clause hints searching inside ascending none numb
 }
 
 -- the clause in conflict
-pub false_there : (c : ClauseList) (lines : List Line) (h : Hint) (m : List ℕ) (d : List Lit) → IsFalseClause c lines h m → hinted c lines h ≡ Some d → reading (marked m) d ≡ AllFalse
+pub false_there : (c : ClauseList) (lines : List Line) (h : Hint) (m : List ℕ) (d : List Lit) → IsFalseClause c lines h m → hinted c lines h ≡ Some d → reading (assignment_of_marks m) d ≡ AllFalse
 false_there c lines h m d false_clause names =
     let same : false_clause.0 ≡ d = (let both = sym false_clause.1 ∙ names in cc) in
-    subst (λ (e : List Lit). reading (marked m) e ≡ AllFalse) same false_clause.2
+    subst (λ (e : List Lit). reading (assignment_of_marks m) e ≡ AllFalse) same false_clause.2
 
 -- a reason names a clause
 pub reason_names : (c : ClauseList) (lines : List Line) (trail : List Step) (m : List ℕ) (q : ℕ) (e : Step) (h : Hint) → IsSearching c lines trail m → q < length trail → (get_or trail q e).reason ≡ Some h → None ≡ hinted c lines h → ⊥

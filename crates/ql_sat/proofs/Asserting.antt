@@ -7,13 +7,13 @@ use Rattle.std.specs.Prelude.{◌==◌, nat_le, is_some, slice_index, MatchOptio
 use Rattle.std.specs.List.{filter}
 use Rattle.ql_cnf.specs.Satisfaction.{ClauseList}
 use Rattle.ql_cnf.specs.declared.lit.Lit.{Lit}
-use Rattle.ql_refute.specs.Marks.{marked}
-use Rattle.ql_refute.specs.Partial.{Partial, nothing, is_value, is_open, reading_of, reading}
+use Rattle.ql_refute.specs.Marks.{assignment_of_marks}
+use Rattle.ql_refute.specs.Partial.{Partial, nothing, is_value, is_not_false, reading_of, reading}
 use Rattle.ql_refute.specs.Verdict.{hinted}
 use Rattle.ql_refute.specs.declared.marks.Reading.TheVariants.{Forces}
 use Rattle.ql_refute.specs.declared.refutation.Hint.{Hint}
 use Rattle.ql_refute.specs.declared.refutation.Line.{Line}
-use Rattle.ql_sat.specs.Trail.{assigned_from, IsTrail, is_seen, NoneSeen, IsOneSeen, IsAsserting, IsFirstAsserting, IsFirstFrom, IsSearching, IsAnalysis, IsLonger, IsUnitClause, learned_to, trail_number}
+use Rattle.ql_sat.specs.Trail.{assigned_from, IsTrail, is_seen, NoneSeen, IsOneSeen, IsAsserting, IsFirstAsserting, IsFirstAssertingFrom, IsSearching, IsAnalysis, IsLonger, IsUnitClause, learned_to, trail_number}
 use Rattle.ql_sat.specs.declared.trail.Step.{Step}
 use Rattle.ql_sat.specs.declared.trail.Visit.TheVariants.{Forced}
 use Rattle.ql_sat.proofs.Analysis.{none_absent, split_at}
@@ -44,47 +44,47 @@ closed_there o true h = rw h refl
 closed_there o false h = rw h refl
 
 -- of the learned clause's literals up to n none is open but that of the one variable
-none_open : (p : Partial) (m : List ℕ) (seen : List Bool) (w n : ℕ) → ((u : ℕ) → is_seen seen u ≡ true → u ≢ w → p u ≡ Some (slice_index m u == 1)) → n < w → filter (is_open p) (learned_to m seen n) ≡ []
+none_open : (p : Partial) (m : List ℕ) (seen : List Bool) (w n : ℕ) → ((u : ℕ) → is_seen seen u ≡ true → u ≢ w → p u ≡ Some (slice_index m u == 1)) → n < w → filter (is_not_false p) (learned_to m seen n) ≡ []
 none_open p m seen w zero values l = refl
 none_open p m seen w (suc n) values l =
-    filter-append (is_open p) (learned_to m seen n) (cond (is_seen seen (suc n)) (lit_of m (suc n) ∷ []) [])
-    ∙ ap (λ (zs : List Lit). zs ++ filter (is_open p) (cond (is_seen seen (suc n)) (lit_of m (suc n) ∷ []) [])) (none_open p m seen w n values (omega arith))
+    filter-append (is_not_false p) (learned_to m seen n) (cond (is_seen seen (suc n)) (lit_of m (suc n) ∷ []) [])
+    ∙ ap (λ (zs : List Lit). zs ++ filter (is_not_false p) (cond (is_seen seen (suc n)) (lit_of m (suc n) ∷ []) [])) (none_open p m seen w n values (omega arith))
     ∙ step (is_seen seen (suc n)) refl
   where
-    step : (b : Bool) → is_seen seen (suc n) ≡ b → filter (is_open p) (cond b (lit_of m (suc n) ∷ []) []) ≡ []
+    step : (b : Bool) → is_seen seen (suc n) ≡ b → filter (is_not_false p) (cond b (lit_of m (suc n) ∷ []) []) ≡ []
     step true e =
-        let closed : is_open p (lit_of m (suc n)) ≡ false = closed_there (p (suc n)) (slice_index m (suc n) == 1) (values (suc n) e (λ same. omega arith)) in
+        let closed : is_not_false p (lit_of m (suc n)) ≡ false = closed_there (p (suc n)) (slice_index m (suc n) == 1) (values (suc n) e (λ same. omega arith)) in
         rw closed refl
     step false e = refl
 
-one_open : (p : Partial) (m : List ℕ) (seen : List Bool) (w n : ℕ) → ((u : ℕ) → is_seen seen u ≡ true → u ≢ w → p u ≡ Some (slice_index m u == 1)) → p w ≡ None → is_seen seen w ≡ true → 1 ≤ w → w ≤ n → filter (is_open p) (learned_to m seen n) ≡ lit_of m w ∷ []
+one_open : (p : Partial) (m : List ℕ) (seen : List Bool) (w n : ℕ) → ((u : ℕ) → is_seen seen u ≡ true → u ≢ w → p u ≡ Some (slice_index m u == 1)) → p w ≡ None → is_seen seen w ≡ true → 1 ≤ w → w ≤ n → filter (is_not_false p) (learned_to m seen n) ≡ lit_of m w ∷ []
 one_open p m seen w zero values none sees low high = absurd (omega arith)
 one_open p m seen w (suc n) values none sees low high =
-    filter-append (is_open p) (learned_to m seen n) (cond (is_seen seen (suc n)) (lit_of m (suc n) ∷ []) [])
+    filter-append (is_not_false p) (learned_to m seen n) (cond (is_seen seen (suc n)) (lit_of m (suc n) ∷ []) [])
     ∙ step (w == suc n) refl (λ l. one_open p m seen w n values none sees low l)
   where
-    last_open : (b : Bool) → b ≡ true → p (suc n) ≡ None → filter (is_open p) (cond b (lit_of m (suc n) ∷ []) []) ≡ lit_of m (suc n) ∷ []
+    last_open : (b : Bool) → b ≡ true → p (suc n) ≡ None → filter (is_not_false p) (cond b (lit_of m (suc n) ∷ []) []) ≡ lit_of m (suc n) ∷ []
     last_open true e unset = rw unset refl
     last_open false e unset = absurd (cc)
 
-    last_closed : (b : Bool) → is_seen seen (suc n) ≡ b → suc n ≢ w → filter (is_open p) (cond b (lit_of m (suc n) ∷ []) []) ≡ []
+    last_closed : (b : Bool) → is_seen seen (suc n) ≡ b → suc n ≢ w → filter (is_not_false p) (cond b (lit_of m (suc n) ∷ []) []) ≡ []
     last_closed true e other =
-        let closed : is_open p (lit_of m (suc n)) ≡ false = closed_there (p (suc n)) (slice_index m (suc n) == 1) (values (suc n) e other) in
+        let closed : is_not_false p (lit_of m (suc n)) ≡ false = closed_there (p (suc n)) (slice_index m (suc n) == 1) (values (suc n) e other) in
         rw closed refl
     last_closed false e other = refl
 
-    step : (t : Bool) → (w == suc n) ≡ t → (w ≤ n → filter (is_open p) (learned_to m seen n) ≡ lit_of m w ∷ []) → filter (is_open p) (learned_to m seen n) ++ filter (is_open p) (cond (is_seen seen (suc n)) (lit_of m (suc n) ∷ []) []) ≡ lit_of m w ∷ []
+    step : (t : Bool) → (w == suc n) ≡ t → (w ≤ n → filter (is_not_false p) (learned_to m seen n) ≡ lit_of m w ∷ []) → filter (is_not_false p) (learned_to m seen n) ++ filter (is_not_false p) (cond (is_seen seen (suc n)) (lit_of m (suc n) ∷ []) []) ≡ lit_of m w ∷ []
     step true e before =
         let same : suc n ≡ w = sym (is_same w (suc n) e) in
         let sees_it : is_seen seen (suc n) ≡ true = subst (λ (u : ℕ). is_seen seen u ≡ true) (sym same) sees in
         let unset : p (suc n) ≡ None = subst (λ (u : ℕ). p u ≡ None) (sym same) none in
-        ap (λ (zs : List Lit). zs ++ filter (is_open p) (cond (is_seen seen (suc n)) (lit_of m (suc n) ∷ []) [])) (none_open p m seen w n values (omega arith))
+        ap (λ (zs : List Lit). zs ++ filter (is_not_false p) (cond (is_seen seen (suc n)) (lit_of m (suc n) ∷ []) [])) (none_open p m seen w n values (omega arith))
         ∙ last_open (is_seen seen (suc n)) sees_it unset
         ∙ ap (λ (u : ℕ). lit_of m u ∷ []) same
     step false e before =
         let other : w ≢ suc n = not_same w (suc n) e in
-        ap (λ (zs : List Lit). filter (is_open p) (learned_to m seen n) ++ zs) (last_closed (is_seen seen (suc n)) refl (λ same. other (sym same)))
-        ∙ append-nil (filter (is_open p) (learned_to m seen n))
+        ap (λ (zs : List Lit). filter (is_not_false p) (learned_to m seen n) ++ zs) (last_closed (is_seen seen (suc n)) refl (λ same. other (sym same)))
+        ∙ append-nil (filter (is_not_false p) (learned_to m seen n))
         ∙ before (omega arith)
 
 -- a variable of a later step has no value yet
@@ -105,7 +105,7 @@ forces_there c lines trail m i to seen hints searching analysis asserting =
         let known = analysis.values one.0 one.1 in
         let steps : IsTrail c lines nothing (xs ++ zs) = subst (λ (t : List Step). IsTrail c lines nothing t) whole searching.steps in
         let none : assigned_from nothing xs one.0 ≡ None = unset_before c lines (assigned_from nothing xs) zs one.0 (trail-back c lines nothing xs zs steps) one.2 in
-        let alone : filter (is_open (assigned_from nothing xs)) (learned_to m seen c.variables) ≡ lit_of m one.0 ∷ [] = one_open (assigned_from nothing xs) m seen one.0 c.variables values none one.1 known.0 known.1 in
+        let alone : filter (is_not_false (assigned_from nothing xs)) (learned_to m seen c.variables) ≡ lit_of m one.0 ∷ [] = one_open (assigned_from nothing xs) m seen one.0 c.variables values none one.1 known.0 known.1 in
         (lit_of m one.0, ap (λ (ys : List Lit). reading_of (assigned_from nothing xs) ys) alone ∙ rw none refl)
       where
         values : (u : ℕ) → is_seen seen u ≡ true → u ≢ one.0 → assigned_from nothing xs u ≡ Some (slice_index m u == 1)
@@ -139,10 +139,10 @@ greater_after n to trail now f seen asserting most forced is =
     subst (λ (t : List Step). trail_number n t < trail_number n now) (sym (split_at trail to e asserting.within)) (subst (λ (t : List Step). trail_number n (take to trail ++ get_or trail to e ∷ drop (suc to) trail) < trail_number n t) (sym is) greater)
 
 -- so it does once the search has gone back
-pub learned_unit : (c : ClauseList) (lines more : List Line) (trail : List Step) (m n : List ℕ) (i to : ℕ) (seen : List Bool) (hints : List Hint) (clause : List Lit) (h : Hint) → IsSearching c lines trail m → IsAnalysis c lines trail i seen hints → IsAsserting trail to seen → clause ≡ learned_to m seen c.variables → marked n ≡ assigned_from nothing (take to trail) → hinted c more h ≡ Some clause → IsUnitClause c more h n
+pub learned_unit : (c : ClauseList) (lines more : List Line) (trail : List Step) (m n : List ℕ) (i to : ℕ) (seen : List Bool) (hints : List Hint) (clause : List Lit) (h : Hint) → IsSearching c lines trail m → IsAnalysis c lines trail i seen hints → IsAsserting trail to seen → clause ≡ learned_to m seen c.variables → assignment_of_marks n ≡ assigned_from nothing (take to trail) → hinted c more h ≡ Some clause → IsUnitClause c more h n
 learned_unit c lines more trail m n i to seen hints clause h searching analysis asserting is values names =
     let forces = forces_there c lines trail m i to seen hints searching analysis asserting in
-    let read : reading (marked n) clause ≡ Forces forces.0 = rw (values, is) forces.1 in
+    let read : reading (assignment_of_marks n) clause ≡ Forces forces.0 = rw (values, is) forces.1 in
     (clause, forces.0, names, read)
 
 -- and the turn that learns it makes the trail greater
@@ -181,11 +181,11 @@ two_seen seen (s ∷ ss) (suc k) zero e l sees one h = absurd (omega (arith, l))
 two_seen seen (s ∷ ss) (suc k) (suc i) e l sees one h = two_seen seen ss k i e (omega (arith, l)) sees one h
 
 -- after a place from which on no step is seen nothing is found
-pub first_none : (trail : List Step) (seen : List Bool) (place : ℕ) → NoneSeen seen (drop place trail) → IsFirstFrom trail seen place None
+pub first_none : (trail : List Step) (seen : List Bool) (place : ℕ) → NoneSeen seen (drop place trail) → IsFirstAssertingFrom trail seen place None
 first_none trail seen place none k l asserting = none_one seen (drop k trail) (none_later seen trail place k l none) asserting.one
 
 -- before a place that follows a seen step there is none either
-pub first_of_all : (trail : List Step) (seen : List Bool) (place : ℕ) (found : Option ℕ) (e : Step) (A : Type 0) → ((i : ℕ) → place ≡ suc i → is_seen seen (get_or trail i e).lit.var ≡ true) → IsOneSeen seen (drop place trail) → IsFirstFrom trail seen place found → MatchOption found A (λ i. IsAsserting trail i seen) → MatchOption found A (λ i. IsFirstAsserting trail i seen)
+pub first_of_all : (trail : List Step) (seen : List Bool) (place : ℕ) (found : Option ℕ) (e : Step) (A : Type 0) → ((i : ℕ) → place ≡ suc i → is_seen seen (get_or trail i e).lit.var ≡ true) → IsOneSeen seen (drop place trail) → IsFirstAssertingFrom trail seen place found → MatchOption found A (λ i. IsAsserting trail i seen) → MatchOption found A (λ i. IsFirstAsserting trail i seen)
 first_of_all trail seen place None e A sees one first h = h
 first_of_all trail seen place (Some to) e A sees one first h = record {
   asserting = h;

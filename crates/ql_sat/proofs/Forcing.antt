@@ -8,8 +8,8 @@ use Rattle.std.specs.List.{All, filter, list_any}
 use Rattle.ql_cnf.specs.Literals.{AllAbove, IsAscendingByVariable, same_literal, has_literal}
 use Rattle.ql_cnf.specs.Satisfaction.{ClauseList}
 use Rattle.ql_cnf.specs.declared.lit.Lit.{Lit}
-use Rattle.ql_refute.specs.Marks.{marked, mark_of}
-use Rattle.ql_refute.specs.Partial.{Partial, is_value, is_open, reading_of, reading}
+use Rattle.ql_refute.specs.Marks.{assignment_of_marks, mark_of}
+use Rattle.ql_refute.specs.Partial.{Partial, is_value, is_not_false, reading_of, reading}
 use Rattle.ql_refute.specs.Verdict.{hinted}
 use Rattle.ql_refute.specs.declared.marks.Reading.TheVariants.{AllFalse, Forces}
 use Rattle.ql_refute.specs.declared.refutation.Hint.TheVariants.{Given}
@@ -63,12 +63,12 @@ only_from q y (x ∷ xs) h = (h zero x (omega arith), only_from q y xs (λ k e l
 
 -- what a clause that is to be read says
 pub says : (p : Partial) (d : List Lit) (falsified other : Lit) → IsAscendingByVariable d → IsFalse p falsified → IsLook d falsified other p Read → (reading p d ≡ AllFalse) ⊎ (reading p d ≡ Forces other)
-says p d falsified other ascending closed look = elim (alone (is_open p) other d ascending (only_from (is_open p) other d only)) [
+says p d falsified other ascending closed look = elim (alone (is_not_false p) other d ascending (only_from (is_not_false p) other d only)) [
   | inl e ↦ inl (ap (λ (ys : List Lit). reading_of p ys) e)
   | inr e ↦ inr (let unset : is_some (p other.var) ≡ false = value_there (p other.var) other.positive e.1 look.0 in ap (λ (ys : List Lit). reading_of p ys) e.0 ∙ rw unset refl)
 ]
   where
-    only : All (λ x. is_open p x ≡ true → x ≡ other) d
+    only : All (λ x. is_not_false p x ≡ true → x ≡ other) d
     only k e l opened = elim (look.1 k e l opened) [ inl f ↦ f | inr f ↦ absurd (open_not_false p (get_or d k e) opened (false_at_index p (get_or d k e) falsified f closed)) ]
 
 -- the name of a given clause
@@ -121,13 +121,13 @@ some_passes q (y ∷ ys) x h e = step (same_literal x y) refl h (some_passes q y
     step false f g ih = rw (ih g e) (or_true (q y))
 
 -- the literal that a clause forces is true once it is set
-pub forced_there : (c : ClauseList) (lines : List Line) (m : List ℕ) (h : Hint) (d e : List Lit) (x y : Lit) → hinted c lines h ≡ Some d → hinted c lines h ≡ Some e → reading (marked m) d ≡ Forces x → reading (marked m) e ≡ Forces y → x.var < length m → marked (slice_set m x.var (mark_of x.positive)) y.var ≡ Some y.positive
+pub forced_there : (c : ClauseList) (lines : List Line) (m : List ℕ) (h : Hint) (d e : List Lit) (x y : Lit) → hinted c lines h ≡ Some d → hinted c lines h ≡ Some e → reading (assignment_of_marks m) d ≡ Forces x → reading (assignment_of_marks m) e ≡ Forces y → x.var < length m → assignment_of_marks (slice_set m x.var (mark_of x.positive)) y.var ≡ Some y.positive
 forced_there c lines m h d e x y named named_too forces forces_too below =
     let one : Some d ≡ Some e = sym named ∙ named_too in
     let same : d ≡ e = cc in
-    let both : Forces x ≡ Forces y = sym forces ∙ ap (λ (u : List Lit). reading (marked m) u) same ∙ forces_too in
+    let both : Forces x ≡ Forces y = sym forces ∙ ap (λ (u : List Lit). reading (assignment_of_marks m) u) same ∙ forces_too in
     let literal : x ≡ y = cc in
-    subst (λ (z : Lit). marked (slice_set m x.var (mark_of x.positive)) z.var ≡ Some z.positive) literal (ap (λ (p : Partial). p x.var) (marked-set m x below) ∙ set_here (marked m) x)
+    subst (λ (z : Lit). assignment_of_marks (slice_set m x.var (mark_of x.positive)) z.var ≡ Some z.positive) literal (ap (λ (p : Partial). p x.var) (marked-set m x below) ∙ set_here (assignment_of_marks m) x)
 
 pub value_not : (o : Option Bool) (b : Bool) → is_value o b ≡ false → o ≡ Some b → ⊥
 value_not None b h e = absurd (cc)

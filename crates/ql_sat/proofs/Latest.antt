@@ -11,7 +11,7 @@ use Rattle.std.specs.List.{filter}
 use Rattle.ql_cnf.specs.Literals.{negated, same_literal, has_literal, IsAscendingByVariable}
 use Rattle.ql_cnf.specs.Satisfaction.{ClauseList}
 use Rattle.ql_cnf.specs.declared.lit.Lit.{Lit}
-use Rattle.ql_refute.specs.Partial.{Partial, nothing, with_true, is_open, reading}
+use Rattle.ql_refute.specs.Partial.{Partial, nothing, with_true, is_not_false, reading}
 use Rattle.ql_refute.specs.declared.marks.Reading.TheVariants.{Forces}
 use Rattle.ql_refute.specs.declared.refutation.Hint.{Hint}
 use Rattle.ql_refute.specs.declared.refutation.Line.{Line}
@@ -172,14 +172,14 @@ own_both (x ∷ xs) w first second short = (first, second, λ same. none xs (ome
     none (y ∷ ys) h = absurd (omega (arith, h))
 
 -- where no step before is seen all literals of the learned clause are open
-all_open : (p : Partial) (m : List ℕ) (seen : List Bool) (n : ℕ) → ((v : ℕ) → is_seen seen v ≡ true → p v ≡ None) → filter (is_open p) (learned_to m seen n) ≡ learned_to m seen n
+all_open : (p : Partial) (m : List ℕ) (seen : List Bool) (n : ℕ) → ((v : ℕ) → is_seen seen v ≡ true → p v ≡ None) → filter (is_not_false p) (learned_to m seen n) ≡ learned_to m seen n
 all_open p m seen zero none = refl
 all_open p m seen (suc n) none =
-    filter-append (is_open p) (learned_to m seen n) (cond (is_seen seen (suc n)) (lit_of m (suc n) ∷ []) [])
-    ∙ ap (λ (zs : List Lit). zs ++ filter (is_open p) (cond (is_seen seen (suc n)) (lit_of m (suc n) ∷ []) [])) (all_open p m seen n none)
+    filter-append (is_not_false p) (learned_to m seen n) (cond (is_seen seen (suc n)) (lit_of m (suc n) ∷ []) [])
+    ∙ ap (λ (zs : List Lit). zs ++ filter (is_not_false p) (cond (is_seen seen (suc n)) (lit_of m (suc n) ∷ []) [])) (all_open p m seen n none)
     ∙ ap (λ (zs : List Lit). learned_to m seen n ++ zs) (step (is_seen seen (suc n)) refl)
   where
-    step : (b : Bool) → is_seen seen (suc n) ≡ b → filter (is_open p) (cond b (lit_of m (suc n) ∷ []) []) ≡ cond b (lit_of m (suc n) ∷ []) []
+    step : (b : Bool) → is_seen seen (suc n) ≡ b → filter (is_not_false p) (cond b (lit_of m (suc n) ∷ []) []) ≡ cond b (lit_of m (suc n) ∷ []) []
     step true e = let unset : p (suc n) ≡ None = none (suc n) e in rw unset refl
     step false e = refl
 
@@ -189,7 +189,7 @@ pair_own c lines trail m i to seen hints x w searching analysis forces watches =
     own_both (learned_to m seen c.variables) w (of_forced w.first watches.0) (elim watches.1 [ inl twice ↦ of_forced w.second twice.0 | inr last ↦ subst (λ (z : Lit). has_literal (learned_to m seen c.variables) z ≡ true) (sym last.2) (of_last last.0 last.1) ]) short
   where
     of_forced : (y : Lit) → y ≡ x → has_literal (learned_to m seen c.variables) y ≡ true
-    of_forced y same = subst (λ (z : Lit). has_literal (learned_to m seen c.variables) z ≡ true) (sym same) (has_alone (is_open (assigned_from nothing (take to trail))) x (learned_to m seen c.variables) (from_reading (assigned_from nothing (take to trail)) (filter (is_open (assigned_from nothing (take to trail))) (learned_to m seen c.variables)) x forces))
+    of_forced y same = subst (λ (z : Lit). has_literal (learned_to m seen c.variables) z ≡ true) (sym same) (has_alone (is_not_false (assigned_from nothing (take to trail))) x (learned_to m seen c.variables) (from_reading (assigned_from nothing (take to trail)) (filter (is_not_false (assigned_from nothing (take to trail))) (learned_to m seen c.variables)) x forces))
 
     value : (y : Lit) → IsLastSeen seen (take to trail) y → assigned_from nothing (take to trail) y.var ≡ Some y.positive
     value y last =
@@ -203,8 +203,8 @@ pair_own c lines trail m i to seen hints x w searching analysis forces watches =
     some_same : (a b : Bool) → Some a ≡ Some b → a ≡ b
     some_same a b h = cc
 
-    alone : filter (is_open (assigned_from nothing (take to trail))) (learned_to m seen c.variables) ≡ x ∷ []
-    alone = from_reading (assigned_from nothing (take to trail)) (filter (is_open (assigned_from nothing (take to trail))) (learned_to m seen c.variables)) x forces
+    alone : filter (is_not_false (assigned_from nothing (take to trail))) (learned_to m seen c.variables) ≡ x ∷ []
+    alone = from_reading (assigned_from nothing (take to trail)) (filter (is_not_false (assigned_from nothing (take to trail))) (learned_to m seen c.variables)) x forces
 
     unset : assigned_from nothing (take to trail) x.var ≡ None
     unset = none_of (assigned_from nothing (take to trail) x.var) (forced_unset (assigned_from nothing (take to trail)) (learned_to m seen c.variables) x forces)

@@ -6,14 +6,14 @@ use Rattle.std.specs.Bool.{beq}
 use Rattle.std.specs.List.{All, filter, list_any}
 use Rattle.ql_cnf.specs.Satisfaction.{ClauseList, AreInRange, ClausesInRange, literal_true, clause_true, Satisfies}
 use Rattle.ql_cnf.specs.declared.lit.Lit.{Lit}
-use Rattle.ql_refute.specs.Marks.{marked, value_of_mark}
-use Rattle.ql_refute.specs.Partial.{Partial, is_value, is_open, reading}
+use Rattle.ql_refute.specs.Marks.{assignment_of_marks, value_of_mark}
+use Rattle.ql_refute.specs.Partial.{Partial, is_value, is_not_false, reading}
 use Rattle.ql_refute.specs.declared.marks.Reading.TheVariants.{AllFalse, Neither}
 use Rattle.ql_sat.specs.Search.{IsTotal, AgreesWith}
 
 -- a clause that isn't false has a literal that isn't
-has_open : (p : Partial) (d : List Lit) → reading p d ≡ Neither → list_any (is_open p) d ≡ true
-has_open p d h = by_any (list_any (is_open p) d) refl
+has_open : (p : Partial) (d : List Lit) → reading p d ≡ Neither → list_any (is_not_false p) d ≡ true
+has_open p d h = by_any (list_any (is_not_false p) d) refl
   where
     none : (q : Lit → Bool) (xs : List Lit) → list_any q xs ≡ false → filter q xs ≡ []
     none q [] e = refl
@@ -23,9 +23,9 @@ has_open p d h = by_any (list_any (is_open p) d) refl
         step true f g ih = absurd (cc)
         step false f g ih = ih g
 
-    by_any : (b : Bool) → list_any (is_open p) d ≡ b → list_any (is_open p) d ≡ true
+    by_any : (b : Bool) → list_any (is_not_false p) d ≡ b → list_any (is_not_false p) d ≡ true
     by_any true e = e
-    by_any false e = absurd (let closed : reading p d ≡ AllFalse = rw (none (is_open p) d e) refl in cc)
+    by_any false e = absurd (let closed : reading p d ≡ AllFalse = rw (none (is_not_false p) d e) refl in cc)
 
 -- a value that isn't the other one
 open_is_true : (o : Option Bool) (b : Bool) → is_some o ≡ true → not (is_value o (not b)) ≡ true → o ≡ Some b
@@ -47,9 +47,9 @@ beq_refl : (b : Bool) → beq b b ≡ true
 beq_refl true = refl
 beq_refl false = refl
 
-literal_is_true : (n : ℕ) (m : List ℕ) (a : List Bool) (x : Lit) → IsTotal n m → AgreesWith n m a → 1 ≤ x.var → x.var ≤ n → is_open (marked m) x ≡ true → literal_true a x ≡ true
+literal_is_true : (n : ℕ) (m : List ℕ) (a : List Bool) (x : Lit) → IsTotal n m → AgreesWith n m a → 1 ≤ x.var → x.var ≤ n → is_not_false (assignment_of_marks m) x ≡ true → literal_true a x ≡ true
 literal_is_true n m a x total agrees low high opened =
-    let value : value_of_mark (slice_index m x.var) ≡ Some x.positive = open_is_true (marked m x.var) x.positive (total x.var low high) opened in
+    let value : value_of_mark (slice_index m x.var) ≡ Some x.positive = open_is_true (assignment_of_marks m x.var) x.positive (total x.var low high) opened in
     rw (agrees.1 x.var low high ∙ mark_value (slice_index m x.var) x.positive value) (beq_refl x.positive)
 
 any_true : (p q : Lit → Bool) (d : List Lit) → All (λ x. p x ≡ true → q x ≡ true) d → list_any p d ≡ true → list_any q d ≡ true
@@ -65,12 +65,12 @@ any_true p q (x ∷ xs) all h = step (p x) refl h (any_true p q xs (λ k e l. al
     step false e g ih = rw (ih g) (or_true (q x))
 
 -- where each clause has a literal that isn't false, the assignment of such marks satisfies them
-pub is_model_open : (c : ClauseList) (m : List ℕ) (a : List Bool) → ClausesInRange c.variables c.clauses → All (λ d. list_any (is_open (marked m)) d ≡ true) c.clauses → IsTotal c.variables m → AgreesWith c.variables m a → Satisfies a c
+pub is_model_open : (c : ClauseList) (m : List ℕ) (a : List Bool) → ClausesInRange c.variables c.clauses → All (λ d. list_any (is_not_false (assignment_of_marks m)) d ≡ true) c.clauses → IsTotal c.variables m → AgreesWith c.variables m a → Satisfies a c
 is_model_open c m a inside opens total agrees =
     (agrees.0, list_all-from_AllPass (clause_true a) c.clauses (λ k d l. each (get_or c.clauses k d) (inside k d l) (opens k d l)))
   where
-    each : (d : List Lit) → AreInRange c.variables d → list_any (is_open (marked m)) d ≡ true → clause_true a d ≡ true
+    each : (d : List Lit) → AreInRange c.variables d → list_any (is_not_false (assignment_of_marks m)) d ≡ true → clause_true a d ≡ true
     each d ranges some =
-        any_true (is_open (marked m)) (literal_true a) d
+        any_true (is_not_false (assignment_of_marks m)) (literal_true a) d
         (λ k e l opened. literal_is_true c.variables m a (get_or d k e) total agrees (ranges k e l).0 (ranges k e l).1 opened)
         some

@@ -6,7 +6,7 @@ use Rattle.std.proofs.lemmas.List.{length_push}
 use Rattle.std.specs.Prelude.{◌==◌, is_some, slice_index, slice_set}
 use Rattle.ql_cnf.specs.Satisfaction.{ClauseList}
 use Rattle.ql_cnf.specs.declared.lit.Lit.{Lit}
-use Rattle.ql_refute.specs.Marks.{IsClear, marked, mark_of, value_of_mark}
+use Rattle.ql_refute.specs.Marks.{IsClear, assignment_of_marks, mark_of, value_of_mark}
 use Rattle.ql_refute.specs.Partial.{Partial, nothing, with_true}
 use Rattle.ql_refute.specs.declared.refutation.Line.{Line}
 use Rattle.ql_refute.proofs.Marking.{marked-set, marked-clear, same_refl}
@@ -18,7 +18,7 @@ use Rattle.ql_sat.proofs.Unset.{unset_count-one_less, unset_count-one_more, unse
 use Rattle.ql_sat.proofs.Trails.{assigned-append, trail-push, trail-front, trail-back, fresh}
 
 -- one more step
-pub searching_push : (c : ClauseList) (lines : List Line) (trail : List Step) (marks : List ℕ) (s : Step) → IsSearching c lines trail marks → s.lit.var < length marks → IsTrailStep c lines (marked marks) s → IsSearching c lines (trail ++ s ∷ []) (slice_set marks s.lit.var (mark_of s.lit.positive))
+pub searching_push : (c : ClauseList) (lines : List Line) (trail : List Step) (marks : List ℕ) (s : Step) → IsSearching c lines trail marks → s.lit.var < length marks → IsTrailStep c lines (assignment_of_marks marks) s → IsSearching c lines (trail ++ s ∷ []) (slice_set marks s.lit.var (mark_of s.lit.positive))
 searching_push c lines trail marks s h below step = record {
   good = h.good;
   in_range = h.in_range;
@@ -29,16 +29,16 @@ searching_push c lines trail marks s h below step = record {
   values = marked-set marks s.lit below ∙ ap (λ (p : Partial). with_true p s.lit) h.values ∙ sym (assigned-append nothing trail (s ∷ []));
   room = length-set marks s.lit.var (mark_of s.lit.positive) ∙ h.room;
   counted =
-      let fewer : unset_count (slice_set marks s.lit.var (mark_of s.lit.positive)) + 1 ≡ unset_count marks = unset_count-one_less marks s.lit below (rw (fresh c lines (marked marks) s step) refl) in
+      let fewer : unset_count (slice_set marks s.lit.var (mark_of s.lit.positive)) + 1 ≡ unset_count marks = unset_count-one_less marks s.lit below (rw (fresh c lines (assignment_of_marks marks) s step) refl) in
       let long : length (trail ++ s ∷ []) ≡ length trail + 1 = length_push trail s in
       let same : length (slice_set marks s.lit.var (mark_of s.lit.positive)) ≡ length marks = length-set marks s.lit.var (mark_of s.lit.positive) in
       omega (arith, fewer, long, same, h.counted);
 }
 
 -- and makes the trail greater
-pub number_step : (c : ClauseList) (lines : List Line) (trail : List Step) (marks : List ℕ) (s : Step) → IsSearching c lines trail marks → s.lit.var < length marks → IsTrailStep c lines (marked marks) s → trail_number (c.variables + 1) trail < trail_number (c.variables + 1) (trail ++ s ∷ [])
+pub number_step : (c : ClauseList) (lines : List Line) (trail : List Step) (marks : List ℕ) (s : Step) → IsSearching c lines trail marks → s.lit.var < length marks → IsTrailStep c lines (assignment_of_marks marks) s → trail_number (c.variables + 1) trail < trail_number (c.variables + 1) (trail ++ s ∷ [])
 number_step c lines trail marks s h below step =
-    let fewer : unset_count (slice_set marks s.lit.var (mark_of s.lit.positive)) + 1 ≡ unset_count marks = unset_count-one_less marks s.lit below (rw (fresh c lines (marked marks) s step) refl) in
+    let fewer : unset_count (slice_set marks s.lit.var (mark_of s.lit.positive)) + 1 ≡ unset_count marks = unset_count-one_less marks s.lit below (rw (fresh c lines (assignment_of_marks marks) s step) refl) in
     number_push (c.variables + 1) trail s (omega (arith, fewer, h.counted, h.room))
 
 pub at_most : (c : ClauseList) (lines : List Line) (trail : List Step) (marks : List ℕ) → IsSearching c lines trail marks → length trail ≤ c.variables + 1
@@ -75,7 +75,7 @@ read_zero (x ∷ xs) zero = refl
 read_zero (x ∷ xs) (suc n) = read_zero xs n
 
 -- the last step taken back
-unset_at : (p : Partial) (x : Lit) (m : List ℕ) (v : ℕ) (b : Bool) → marked m ≡ with_true p x → p x.var ≡ None → (v == x.var) ≡ b → value_of_mark (slice_index (slice_set m x.var 0) v) ≡ p v
+unset_at : (p : Partial) (x : Lit) (m : List ℕ) (v : ℕ) (b : Bool) → assignment_of_marks m ≡ with_true p x → p x.var ≡ None → (v == x.var) ≡ b → value_of_mark (slice_index (slice_set m x.var 0) v) ≡ p v
 unset_at p x m v true h none e =
     let same : v ≡ x.var = is_same v x.var e in
     let here : value_of_mark (slice_index (slice_set m x.var 0) x.var) ≡ p x.var = rw (read_zero m x.var, none) refl in
@@ -85,7 +85,7 @@ unset_at p x m v false h none e =
     let kept : value_of_mark (slice_index m v) ≡ with_true p x v = ap (λ (q : Partial). q v) h in
     rw get_or-set_other (kept ∙ rw e refl)
 
-marked-unset : (p : Partial) (x : Lit) (m : List ℕ) → marked m ≡ with_true p x → p x.var ≡ None → marked (slice_set m x.var 0) ≡ p
+marked-unset : (p : Partial) (x : Lit) (m : List ℕ) → assignment_of_marks m ≡ with_true p x → p x.var ≡ None → assignment_of_marks (slice_set m x.var 0) ≡ p
 marked-unset p x m h none = λ i v. unset_at p x m v (v == x.var) h none refl i
 
 pub searching_pop : (c : ClauseList) (lines : List Line) (trail : List Step) (s : Step) (marks : List ℕ) → IsSearching c lines (trail ++ s ∷ []) marks → IsSearching c lines trail (slice_set marks s.lit.var 0)
@@ -99,7 +99,7 @@ searching_pop c lines trail s marks h = record {
   values = marked-unset (assigned_from nothing trail) s.lit marks (h.values ∙ assigned-append nothing trail (s ∷ [])) (fresh c lines (assigned_from nothing trail) s (trail-back c lines nothing trail (s ∷ []) h.steps).0);
   room = length-set marks s.lit.var 0 ∙ h.room;
   counted =
-      let valued : is_some (marked marks s.lit.var) ≡ true = ap (λ (p : Partial). is_some (p s.lit.var)) (h.values ∙ assigned-append nothing trail (s ∷ [])) ∙ rw (same_refl s.lit.var) refl in
+      let valued : is_some (assignment_of_marks marks s.lit.var) ≡ true = ap (λ (p : Partial). is_some (p s.lit.var)) (h.values ∙ assigned-append nothing trail (s ∷ [])) ∙ rw (same_refl s.lit.var) refl in
       let more : unset_count (slice_set marks s.lit.var 0) ≡ unset_count marks + 1 = unset_count-one_more marks s.lit.var (valued_below marks s.lit.var valued) valued in
       let long : length (trail ++ s ∷ []) ≡ length trail + 1 = length_push trail s in
       let same : length (slice_set marks s.lit.var 0) ≡ length marks = length-set marks s.lit.var 0 in

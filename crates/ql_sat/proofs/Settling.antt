@@ -5,7 +5,7 @@ use Rattle.std.specs.Prelude.{◌==◌, is_some}
 use Rattle.ql_cnf.specs.Literals.{negated}
 use Rattle.ql_cnf.specs.Satisfaction.{ClauseList}
 use Rattle.ql_cnf.specs.declared.lit.Lit.{Lit}
-use Rattle.ql_refute.specs.Partial.{Partial, with_true, is_value, is_open}
+use Rattle.ql_refute.specs.Partial.{Partial, with_true, is_value, is_not_false}
 use Rattle.ql_refute.specs.declared.refutation.Line.{Line}
 use Rattle.ql_sat.specs.Settled.{Forces, IsSettled, AtDecisions}
 use Rattle.ql_sat.specs.Trail.{assigned_from, IsTrail}
@@ -53,7 +53,7 @@ IsTrueIn p x = p x.var ≡ Some x.positive
 true_or_false : (p : Partial) (x : Lit) → IsTrueIn p x → IsFalse p x → ⊥
 true_or_false p x e f = not_both (p x.var) x.positive e f
 
-pub open_not_false : (p : Partial) (x : Lit) → is_open p x ≡ true → IsFalse p x → ⊥
+pub open_not_false : (p : Partial) (x : Lit) → is_not_false p x ≡ true → IsFalse p x → ⊥
 open_not_false p x h f = by_sign x.positive (h) f
   where
     by_sign : (b : Bool) → not (is_value (p x.var) (not b)) ≡ true → p x.var ≡ Some (not b) → ⊥

@@ -9,7 +9,7 @@ use Rattle.std.specs.List.{All, filter}
 use Rattle.ql_cnf.specs.Satisfaction.{ClauseList}
 use Rattle.ql_cnf.specs.declared.lit.Lit.{Lit}
 use Rattle.ql_refute.specs.Marks.{has_variable}
-use Rattle.ql_refute.specs.Partial.{Partial, nothing, with_true, is_value, is_open, reading_of, reading}
+use Rattle.ql_refute.specs.Partial.{Partial, nothing, with_true, is_value, is_not_false, reading_of, reading}
 use Rattle.ql_refute.specs.Verdict.{hinted}
 use Rattle.ql_refute.specs.declared.marks.Reading.TheVariants.{AllFalse, Forces, Neither}
 use Rattle.ql_refute.specs.declared.refutation.Hint.{Hint}
@@ -150,8 +150,8 @@ closed_value (Some false) false h = absurd (cc)
 has_var : (d : List Lit) (k : ℕ) (e : Lit) → k < length d → has_variable d (get_or d k e).var ≡ true
 has_var d k e l = list_any_at (λ x. x.var == (get_or d k e).var) d k e l (same_refl (get_or d k e).var)
 
-pub closed_list : (t : Partial) (d : List Lit) → reading t d ≡ AllFalse → filter (is_open t) d ≡ []
-closed_list t d e = cases (filter (is_open t) d) e
+pub closed_list : (t : Partial) (d : List Lit) → reading t d ≡ AllFalse → filter (is_not_false t) d ≡ []
+closed_list t d e = cases (filter (is_not_false t) d) e
   where
     cases : (ys : List Lit) → reading_of t ys ≡ AllFalse → ys ≡ []
     cases [] f = refl
@@ -165,8 +165,8 @@ closed_list t d e = cases (filter (is_open t) d) e
 -- a conflict starts the derivation
 pub derived_start : (c : ClauseList) (lines : List Line) (trail : List Step) (seen : List Bool) (h : Hint) (d : List Lit) → hinted c lines h ≡ Some d → reading (assigned_from nothing trail) d ≡ AllFalse → ((v : ℕ) → has_variable d v ≡ true → is_seen seen v ≡ true) → IsDerived c lines trail [] seen (h ∷ [])
 derived_start c lines trail seen h d names closed sees p same unset k =
-    let agree : All (λ x. is_open p x ≡ is_open (assigned_from nothing trail) x) d = (λ j e l. ap (λ o. not (is_value o (not (get_or d j e).positive))) (same (get_or d j e).var (sees (get_or d j e).var (has_var d j e l)))) in
-    let read : reading p d ≡ AllFalse = ap (λ ys. reading_of p ys) (filter-same (is_open p) (is_open (assigned_from nothing trail)) d agree ∙ closed_list (assigned_from nothing trail) d closed) in
+    let agree : All (λ x. is_not_false p x ≡ is_not_false (assigned_from nothing trail) x) d = (λ j e l. ap (λ o. not (is_value o (not (get_or d j e).positive))) (same (get_or d j e).var (sees (get_or d j e).var (has_var d j e l)))) in
+    let read : reading p d ≡ AllFalse = ap (λ ys. reading_of p ys) (filter-same (is_not_false p) (is_not_false (assigned_from nothing trail)) d agree ∙ closed_list (assigned_from nothing trail) d closed) in
     rw (names, read) refl
 
 -- a step that isn't seen is passed over
@@ -181,13 +181,13 @@ derived_resolve c lines xs later s seen now hints h d trail names forces sees ke
     let read : reading p d ≡ Forces s.lit = reads back whole in
     rw reverse-append (rw (names, read) (derived (with_true p s.lit) (λ v seen_v. valued back whole v seen_v (v == s.lit.var) refl) (unset_more p s.lit later (absent c lines (with_true (assigned_from nothing xs) s.lit) later s.lit.var s.lit.positive back.1 (set_here (assigned_from nothing xs) s.lit)) unset.1) k))
   where
-    agree : IsTrail c lines (assigned_from nothing xs) (s ∷ later) → assigned_from nothing (xs ++ s ∷ later) ≡ assigned_from (assigned_from nothing xs) (s ∷ later) → All (λ x. is_open p x ≡ is_open (assigned_from nothing xs) x) d
-    agree back whole j e l = step (is_open (assigned_from nothing xs) (get_or d j e)) refl
+    agree : IsTrail c lines (assigned_from nothing xs) (s ∷ later) → assigned_from nothing (xs ++ s ∷ later) ≡ assigned_from (assigned_from nothing xs) (s ∷ later) → All (λ x. is_not_false p x ≡ is_not_false (assigned_from nothing xs) x) d
+    agree back whole j e l = step (is_not_false (assigned_from nothing xs) (get_or d j e)) refl
       where
-        step : (b : Bool) → is_open (assigned_from nothing xs) (get_or d j e) ≡ b → is_open p (get_or d j e) ≡ b
+        step : (b : Bool) → is_not_false (assigned_from nothing xs) (get_or d j e) ≡ b → is_not_false p (get_or d j e) ≡ b
         step true f =
-            let here : get_or d j e ≡ s.lit = one_passes (is_open (assigned_from nothing xs)) s.lit d j e (from_reading (assigned_from nothing xs) (filter (is_open (assigned_from nothing xs)) d) s.lit forces) l f in
-            subst (λ (x : Lit). is_open p x ≡ true) (sym here) (rw unset.0 refl)
+            let here : get_or d j e ≡ s.lit = one_passes (is_not_false (assigned_from nothing xs)) s.lit d j e (from_reading (assigned_from nothing xs) (filter (is_not_false (assigned_from nothing xs)) d) s.lit forces) l f in
+            subst (λ (x : Lit). is_not_false p x ≡ true) (sym here) (rw unset.0 refl)
         step false f =
             let value : assigned_from nothing xs (get_or d j e).var ≡ Some (not (get_or d j e).positive) = closed_value (assigned_from nothing xs (get_or d j e).var) (get_or d j e).positive f in
             let other : (get_or d j e).var ≢ s.lit.var = (λ same_var. absurd (let none : assigned_from nothing xs s.lit.var ≡ None = fresh c lines (assigned_from nothing xs) s back.0 in let some : assigned_from nothing xs s.lit.var ≡ Some (not (get_or d j e).positive) = subst (λ (u : ℕ). assigned_from nothing xs u ≡ Some (not (get_or d j e).positive)) same_var value in cc)) in
@@ -199,7 +199,7 @@ derived_resolve c lines xs later s seen now hints h d trail names forces sees ke
             closed false = refl
 
     reads : IsTrail c lines (assigned_from nothing xs) (s ∷ later) → assigned_from nothing (xs ++ s ∷ later) ≡ assigned_from (assigned_from nothing xs) (s ∷ later) → reading p d ≡ Forces s.lit
-    reads back whole = ap (λ ys. reading_of p ys) (filter-same (is_open p) (is_open (assigned_from nothing xs)) d (agree back whole) ∙ from_reading (assigned_from nothing xs) (filter (is_open (assigned_from nothing xs)) d) s.lit forces) ∙ rw unset.0 refl
+    reads back whole = ap (λ ys. reading_of p ys) (filter-same (is_not_false p) (is_not_false (assigned_from nothing xs)) d (agree back whole) ∙ from_reading (assigned_from nothing xs) (filter (is_not_false (assigned_from nothing xs)) d) s.lit forces) ∙ rw unset.0 refl
 
     valued : IsTrail c lines (assigned_from nothing xs) (s ∷ later) → assigned_from nothing (xs ++ s ∷ later) ≡ assigned_from (assigned_from nothing xs) (s ∷ later) → (v : ℕ) → is_seen seen v ≡ true → (t : Bool) → (v == s.lit.var) ≡ t → cond t (Some s.lit.positive) (p v) ≡ assigned_from nothing (xs ++ s ∷ later) v
     valued back whole v seen_v true f =

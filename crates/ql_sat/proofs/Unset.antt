@@ -4,14 +4,14 @@ use Rattle.std.proofs.lemmas.List.Sums.{sum_by-cons, sum_by-set}
 use Rattle.std.specs.Prelude.{is_some, slice_set}
 use Rattle.std.specs.List.{filter}
 use Rattle.ql_cnf.specs.declared.lit.Lit.{Lit}
-use Rattle.ql_refute.specs.Marks.{marked, mark_of, value_of_mark, IsClear}
-use Rattle.ql_refute.specs.Partial.{Partial, is_open, reading_of, reading}
+use Rattle.ql_refute.specs.Marks.{assignment_of_marks, mark_of, value_of_mark, IsClear}
+use Rattle.ql_refute.specs.Partial.{Partial, is_not_false, reading_of, reading}
 use Rattle.ql_refute.specs.declared.marks.Reading.TheVariants.{Forces, Neither}
 use Rattle.ql_sat.specs.Search.{unset_count}
 
 -- what is forced has no value
 pub forced_unset : (p : Partial) (d : List Lit) (x : Lit) → reading p d ≡ Forces x → is_some (p x.var) ≡ false
-forced_unset p d x h = cases (filter (is_open p) d) h
+forced_unset p d x h = cases (filter (is_not_false p) d) h
   where
     cases : (ys : List Lit) → reading_of p ys ≡ Forces x → is_some (p x.var) ≡ false
     cases [] e = absurd (cc)
@@ -27,7 +27,7 @@ mark_is_set true = refl
 mark_is_set false = refl
 
 -- one variable fewer is unset
-pub unset_count-one_less : (m : List ℕ) (x : Lit) → x.var < length m → is_some (marked m x.var) ≡ false → unset_count (slice_set m x.var (mark_of x.positive)) + 1 ≡ unset_count m
+pub unset_count-one_less : (m : List ℕ) (x : Lit) → x.var < length m → is_some (assignment_of_marks m x.var) ≡ false → unset_count (slice_set m x.var (mark_of x.positive)) + 1 ≡ unset_count m
 unset_count-one_less m x below unset =
     let sums : unset_count (slice_set m x.var (mark_of x.positive)) + cond (is_some (value_of_mark (get_or m x.var 0))) 0 1 ≡ unset_count m + cond (is_some (value_of_mark (mark_of x.positive))) 0 1 = sum_by-set (λ k. cond (is_some (value_of_mark k)) 0 1) m x.var (mark_of x.positive) 0 below in
     let before : cond (is_some (value_of_mark (get_or m x.var 0))) 0 1 ≡ 1 = rw unset refl in
@@ -38,7 +38,7 @@ unset_count-one_less m x below unset =
     less a b s t e f g = omega arith
 
 -- one variable more is unset
-pub unset_count-one_more : (m : List ℕ) (v : ℕ) → v < length m → is_some (marked m v) ≡ true → unset_count (slice_set m v 0) ≡ unset_count m + 1
+pub unset_count-one_more : (m : List ℕ) (v : ℕ) → v < length m → is_some (assignment_of_marks m v) ≡ true → unset_count (slice_set m v 0) ≡ unset_count m + 1
 unset_count-one_more m v below valued =
     let sums : unset_count (slice_set m v 0) + cond (is_some (value_of_mark (get_or m v 0))) 0 1 ≡ unset_count m + 1 = sum_by-set (λ k. cond (is_some (value_of_mark k)) 0 1) m v 0 0 below in
     let before : cond (is_some (value_of_mark (get_or m v 0))) 0 1 ≡ 0 = rw valued refl in
@@ -48,7 +48,7 @@ unset_count-one_more m v below valued =
     more a b s e f = omega arith
 
 -- a mark stands within the buffer
-pub valued_below : (m : List ℕ) (v : ℕ) → is_some (marked m v) ≡ true → v < length m
+pub valued_below : (m : List ℕ) (v : ℕ) → is_some (assignment_of_marks m v) ≡ true → v < length m
 valued_below [] v h = absurd (cc)
 valued_below (x ∷ xs) zero h = omega arith
 valued_below (x ∷ xs) (suc v) h = let below : v < length xs = valued_below xs v h in omega arith

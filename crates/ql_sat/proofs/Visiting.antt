@@ -8,8 +8,8 @@ use Rattle.std.specs.Prelude.{◌==◌, is_some}
 use Rattle.ql_cnf.specs.Literals.{negated, has_literal}
 use Rattle.ql_cnf.specs.Satisfaction.{ClauseList}
 use Rattle.ql_cnf.specs.declared.lit.Lit.{Lit}
-use Rattle.ql_refute.specs.Marks.{marked}
-use Rattle.ql_refute.specs.Partial.{Partial, nothing, with_true, is_open}
+use Rattle.ql_refute.specs.Marks.{assignment_of_marks}
+use Rattle.ql_refute.specs.Partial.{Partial, nothing, with_true, is_not_false}
 use Rattle.ql_refute.specs.declared.refutation.Line.{Line}
 use Rattle.ql_sat.specs.Settled.{IsSettled, AreSettled, WatchesOwn, IsGuarded, IsWatched, values_to, IsSettledTo, falsified_at, IsWaiting, IsVisiting}
 use Rattle.ql_sat.specs.Trail.{assigned_from, IsTrail, IsSearching, IsLonger}
@@ -69,7 +69,7 @@ falsified_false c lines trail place steps l =
 -- and has a list
 pub falsified_has_list : (c : ClauseList) (lines : List Line) (trail : List Step) (m : List ℕ) (place : ℕ) → IsSearching c lines trail m → place < length trail → index_of (falsified_at trail place) < 2 * (c.variables + 1)
 falsified_has_list c lines trail m place searching l =
-    let value : marked m (falsified_at trail place).var ≡ Some (not (falsified_at trail place).positive) = ap (λ (p : Partial). p (falsified_at trail place).var) searching.values ∙ falsified_false c lines trail place searching.steps l in
+    let value : assignment_of_marks m (falsified_at trail place).var ≡ Some (not (falsified_at trail place).positive) = ap (λ (p : Partial). p (falsified_at trail place).var) searching.values ∙ falsified_false c lines trail place searching.steps l in
     let below : (falsified_at trail place).var < length m = valued_below m (falsified_at trail place).var (ap is_some value) in
     by_sign (falsified_at trail place).positive (falsified_at trail place).var (c.variables + 1) (omega (arith, below, searching.room))
   where
@@ -154,7 +154,7 @@ moved_at Q pairs after clause n x to counted others pair here there k l = step (
         subst (λ (w : Pair). Q k w) (sym (others k other)) (there k l other)
 
 -- the clause watches another literal, and leaves the list
-pub visiting_move : (c all : ClauseList) (lines : List Line) (trail : List Step) (lists now : List (List ℕ)) (pairs after : List Pair) (place at clause : ℕ) (x to : Lit) → IsTrail c lines nothing trail → length now ≡ length lists → take at (get_or now (index_of x) []) ≡ take at (get_or lists (index_of x) []) → ((k : ℕ) → k ≢ clause → count_of k (get_or now (index_of x) []) ≡ count_of k (get_or lists (index_of x) [])) → length after ≡ length pairs → ((k : ℕ) → k ≢ clause → pair_at after k ≡ pair_at pairs k) → (clause < length pairs → pair_at after clause ≡ replaced (pair_at pairs clause) x to) → (index_of to ≡ index_of x → ⊥) → (clause < length all.clauses → (has_literal (get_or all.clauses clause []) to ≡ true) × (is_open (assigned_from nothing trail) to ≡ true) × (to ≢ beside (pair_at pairs clause) x)) → IsVisiting all trail lists pairs place at x → IsVisiting all trail now after place at x
+pub visiting_move : (c all : ClauseList) (lines : List Line) (trail : List Step) (lists now : List (List ℕ)) (pairs after : List Pair) (place at clause : ℕ) (x to : Lit) → IsTrail c lines nothing trail → length now ≡ length lists → take at (get_or now (index_of x) []) ≡ take at (get_or lists (index_of x) []) → ((k : ℕ) → k ≢ clause → count_of k (get_or now (index_of x) []) ≡ count_of k (get_or lists (index_of x) [])) → length after ≡ length pairs → ((k : ℕ) → k ≢ clause → pair_at after k ≡ pair_at pairs k) → (clause < length pairs → pair_at after clause ≡ replaced (pair_at pairs clause) x to) → (index_of to ≡ index_of x → ⊥) → (clause < length all.clauses → (has_literal (get_or all.clauses clause []) to ≡ true) × (is_not_false (assigned_from nothing trail) to ≡ true) × (to ≢ beside (pair_at pairs clause) x)) → IsVisiting all trail lists pairs place at x → IsVisiting all trail now after place at x
 visiting_move c all lines trail lists now pairs after place at clause x to steps size front counts long others pair away fits h = record {
   guarded = record {
     counted = long ∙ h.guarded.counted;

@@ -6,8 +6,8 @@ use Rattle.std.specs.List.{filter, list_any}
 use Rattle.ql_cnf.specs.Literals.{same_literal, has_literal}
 use Rattle.ql_cnf.specs.Satisfaction.{ClauseList, ClausesInRange, Satisfies}
 use Rattle.ql_cnf.specs.declared.lit.Lit.{Lit}
-use Rattle.ql_refute.specs.Marks.{marked}
-use Rattle.ql_refute.specs.Partial.{Partial, nothing, is_value, is_open, reading_of, reading}
+use Rattle.ql_refute.specs.Marks.{assignment_of_marks}
+use Rattle.ql_refute.specs.Partial.{Partial, nothing, is_value, is_not_false, reading_of, reading}
 use Rattle.ql_refute.specs.declared.marks.Reading.TheVariants.{Neither}
 use Rattle.ql_refute.specs.declared.refutation.Line.{Line}
 use Rattle.ql_sat.specs.Search.{AgreesWith, IsQuietOnNonUnits, IsTotal}
@@ -63,20 +63,20 @@ true_open o true h = rw h refl
 true_open o false h = rw h refl
 
 -- a clause with a watched literal that is false has one that is true
-opened : (p : Partial) (d : List Lit) (w : Pair) → WatchesOwn d w → d ≢ [] → IsSettled p p w → list_any (is_open p) d ≡ true
+opened : (p : Partial) (d : List Lit) (w : Pair) → WatchesOwn d w → d ≢ [] → IsSettled p p w → list_any (is_not_false p) d ≡ true
 opened p [] w own some settled = absurd (some refl)
-opened p (x ∷ xs) w own some settled = step (is_open p w.first) refl
+opened p (x ∷ xs) w own some settled = step (is_not_false p w.first) refl
   where
-    step : (b : Bool) → is_open p w.first ≡ b → list_any (is_open p) (x ∷ xs) ≡ true
-    step true e = some_passes (is_open p) (x ∷ xs) w.first own.0 e
-    step false e = some_passes (is_open p) (x ∷ xs) w.second own.1 (true_open (p w.second.var) w.second.positive (settled.0 (closed_value (p w.first.var) w.first.positive e)))
+    step : (b : Bool) → is_not_false p w.first ≡ b → list_any (is_not_false p) (x ∷ xs) ≡ true
+    step true e = some_passes (is_not_false p) (x ∷ xs) w.first own.0 e
+    step false e = some_passes (is_not_false p) (x ∷ xs) w.second own.1 (true_open (p w.second.var) w.second.positive (settled.0 (closed_value (p w.first.var) w.first.positive e)))
 
 -- where all is propagated and each variable has a value, the values are a model
-pub watched_model : (c : ClauseList) (lines : List Line) (trail : List Step) (m : List ℕ) (lists : List (List ℕ)) (pairs : List Pair) (done : ℕ) (a : List Bool) → marked m ≡ assigned_from nothing trail → IsWatched (with_lines c lines) trail lists pairs done → done ≡ length trail → ((k : ℕ) → k < length c.clauses → get_or c.clauses k [] ≢ []) → ClausesInRange c.variables c.clauses → IsTotal c.variables m → AgreesWith c.variables m a → Satisfies a c
+pub watched_model : (c : ClauseList) (lines : List Line) (trail : List Step) (m : List ℕ) (lists : List (List ℕ)) (pairs : List Pair) (done : ℕ) (a : List Bool) → assignment_of_marks m ≡ assigned_from nothing trail → IsWatched (with_lines c lines) trail lists pairs done → done ≡ length trail → ((k : ℕ) → k < length c.clauses → get_or c.clauses k [] ≢ []) → ClausesInRange c.variables c.clauses → IsTotal c.variables m → AgreesWith c.variables m a → Satisfies a c
 watched_model c lines trail m lists pairs done a values h all some inside total agrees =
     is_model_open c m a inside
-    (λ k d l. subst (λ (e : List Lit). list_any (is_open (marked m)) e ≡ true) (get_or_default c.clauses k [] d l)
-    (opened (marked m) (get_or c.clauses k []) (pair_at pairs k) (subst (λ (e : List Lit). WatchesOwn e (pair_at pairs k)) (given_stays c lines k l) (h.guarded.own k (given_within c lines k l))) (some k l)
+    (λ k d l. subst (λ (e : List Lit). list_any (is_not_false (assignment_of_marks m)) e ≡ true) (get_or_default c.clauses k [] d l)
+    (opened (assignment_of_marks m) (get_or c.clauses k []) (pair_at pairs k) (subst (λ (e : List Lit). WatchesOwn e (pair_at pairs k)) (given_stays c lines k l) (h.guarded.own k (given_within c lines k l))) (some k l)
     (subst (λ (p : Partial). IsSettled p p (pair_at pairs k)) (sym values) (settled_whole (with_lines c lines) trail pairs done all h.settled k (given_within c lines k l)))))
     total agrees
 
@@ -108,15 +108,15 @@ only x z h = literal_same x z (step (same_literal x z) h)
 
 -- a clause with a true literal, or with two that aren't false, is neither false nor forces a literal
 quiet_true : (p : Partial) (d : List Lit) (x : Lit) → has_literal d x ≡ true → p x.var ≡ Some x.positive → reading p d ≡ Neither
-quiet_true p d x has holds = cases (filter (is_open p) d) (left (is_open p) d x (true_open (p x.var) x.positive holds) has)
+quiet_true p d x has holds = cases (filter (is_not_false p) d) (left (is_not_false p) d x (true_open (p x.var) x.positive holds) has)
   where
     cases : (ys : List Lit) → has_literal ys x ≡ true → reading_of p ys ≡ Neither
     cases [] h = absurd (cc)
     cases (z ∷ []) h = let valued : is_some (p z.var) ≡ true = subst (λ (y : Lit). is_some (p y.var) ≡ true) (only x z h) (rw holds refl) in rw valued refl
     cases (z ∷ y ∷ ys) h = refl
 
-quiet_two : (p : Partial) (d : List Lit) (x y : Lit) → has_literal d x ≡ true → has_literal d y ≡ true → is_open p x ≡ true → is_open p y ≡ true → x ≢ y → reading p d ≡ Neither
-quiet_two p d x y has has_too first second other = cases (filter (is_open p) d) (left (is_open p) d x first has) (left (is_open p) d y second has_too)
+quiet_two : (p : Partial) (d : List Lit) (x y : Lit) → has_literal d x ≡ true → has_literal d y ≡ true → is_not_false p x ≡ true → is_not_false p y ≡ true → x ≢ y → reading p d ≡ Neither
+quiet_two p d x y has has_too first second other = cases (filter (is_not_false p) d) (left (is_not_false p) d x first has) (left (is_not_false p) d y second has_too)
   where
     cases : (ys : List Lit) → has_literal ys x ≡ true → has_literal ys y ≡ true → reading_of p ys ≡ Neither
     cases [] h g = absurd (cc)
@@ -125,15 +125,15 @@ quiet_two p d x y has has_too first second other = cases (filter (is_open p) d) 
 
 settled_quiet : (p : Partial) (d : List Lit) (w : Pair) → WatchesOwn d w → 2 ≤ length d → IsSettled p p w → reading p d ≡ Neither
 settled_quiet p [] w own long settled = absurd (omega (arith, long))
-settled_quiet p (x ∷ xs) w own long settled = step (is_open p w.first) (is_open p w.second) refl refl
+settled_quiet p (x ∷ xs) w own long settled = step (is_not_false p w.first) (is_not_false p w.second) refl refl
   where
-    step : (a b : Bool) → is_open p w.first ≡ a → is_open p w.second ≡ b → reading p (x ∷ xs) ≡ Neither
+    step : (a b : Bool) → is_not_false p w.first ≡ a → is_not_false p w.second ≡ b → reading p (x ∷ xs) ≡ Neither
     step false b e f = quiet_true p (x ∷ xs) w.second own.1 (settled.0 (closed_value (p w.first.var) w.first.positive e))
     step true false e f = quiet_true p (x ∷ xs) w.first own.0 (settled.1 (closed_value (p w.second.var) w.second.positive f))
     step true true e f = quiet_two p (x ∷ xs) w.first w.second own.0 own.1 e f (λ same. absurd (let none : length xs ≡ 0 = ap length (own.2 same) in omega (arith, long, none)))
 
 -- where all is propagated no clause of two literals or more is false or forces a literal
-pub watched_quiet : (c : ClauseList) (trail : List Step) (m : List ℕ) (lists : List (List ℕ)) (pairs : List Pair) (done : ℕ) → marked m ≡ assigned_from nothing trail → IsWatched c trail lists pairs done → done ≡ length trail → IsQuietOnNonUnits c.clauses m
+pub watched_quiet : (c : ClauseList) (trail : List Step) (m : List ℕ) (lists : List (List ℕ)) (pairs : List Pair) (done : ℕ) → assignment_of_marks m ≡ assigned_from nothing trail → IsWatched c trail lists pairs done → done ≡ length trail → IsQuietOnNonUnits c.clauses m
 watched_quiet c trail m lists pairs done values h all k d l =
-    subst (λ (e : List Lit). 2 ≤ length e → reading (marked m) e ≡ Neither) (get_or_default c.clauses k [] d l)
+    subst (λ (e : List Lit). 2 ≤ length e → reading (assignment_of_marks m) e ≡ Neither) (get_or_default c.clauses k [] d l)
     (λ long. subst (λ (p : Partial). reading p (get_or c.clauses k []) ≡ Neither) (sym values) (settled_quiet (assigned_from nothing trail) (get_or c.clauses k []) (pair_at pairs k) (h.guarded.own k l) long (settled_whole c trail pairs done all h.settled k l)))

@@ -17,15 +17,15 @@ IsRight c (Model a) = Satisfies a c
 IsRight c (Refuted r) = verdict c r.lines ≡ Accepted
 
 -- the number of a hint counts from 1 and fits its type
-abbrev pub IsNumbered : Hint → Type 0
-IsNumbered (Given n) = (1 ≤ n) × (n < 2 ^ 32)
-IsNumbered (Earlier n) = (1 ≤ n) × (n < 2 ^ 64)
+abbrev pub IsHintNumbered : Hint → Type 0
+IsHintNumbered (Given n) = (1 ≤ n) × (n < 2 ^ 32)
+IsHintNumbered (Earlier n) = (1 ≤ n) × (n < 2 ^ 64)
 
 -- the same of the variables of a line, which ascend, and of its hints
 pub record IsNumberedLine (line : Line) : Type 0 where
   pub variables : AllByRecursion (λ x. (1 ≤ x.var) × (x.var < 2 ^ 32)) line.clause
   pub ascending : IsAscendingByVariable line.clause
-  pub hints : AllByRecursion IsNumbered line.hints
+  pub hints : AllByRecursion IsHintNumbered line.hints
 
 -- the same of each line, and there are fewer than 2^64
 pub record AreNumbered (lines : List Line) : Type 0 where

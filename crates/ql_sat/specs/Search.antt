@@ -3,17 +3,17 @@ use Rattle.std.specs.Prelude.{ℕ, ◌≡◌, ◌≤◌, ◌==◌, Bool, true, i
 use Rattle.std.specs.List.{All, sum_by}
 use Rattle.ql_cnf.specs.Satisfaction.{variable_value}
 use Rattle.ql_cnf.specs.declared.lit.Lit.{Lit}
-use Rattle.ql_refute.specs.Marks.{marked, value_of_mark}
+use Rattle.ql_refute.specs.Marks.{assignment_of_marks, value_of_mark}
 use Rattle.ql_refute.specs.Partial.{reading}
 use Rattle.ql_refute.specs.declared.marks.Reading.TheVariants.{Neither}
 
 -- nothing can be propagated over the clauses of two literals or more, and none of them is false
 abbrev pub IsQuietOnNonUnits : List (List Lit) → List ℕ → Type 0
-IsQuietOnNonUnits clauses marks = All (λ d. 2 ≤ length d → reading (marked marks) d ≡ Neither) clauses
+IsQuietOnNonUnits clauses marks = All (λ d. 2 ≤ length d → reading (assignment_of_marks marks) d ≡ Neither) clauses
 
 -- each variable has a value
 abbrev pub IsTotal : ℕ → List ℕ → Type 0
-IsTotal n marks = (v : ℕ) → 1 ≤ v → v ≤ n → is_some (marked marks v) ≡ true
+IsTotal n marks = (v : ℕ) → 1 ≤ v → v ≤ n → is_some (assignment_of_marks marks v) ≡ true
 
 -- the assignment has the values that the marks stand for
 abbrev pub AgreesWith : ℕ → List ℕ → List Bool → Type 0

@@ -4,7 +4,7 @@ use Rattle.std.specs.List.{All, slice_index_or}
 use Rattle.ql_cnf.specs.Literals.{has_literal, negated, IsAscendingByVariable}
 use Rattle.ql_cnf.specs.Satisfaction.{ClauseList}
 use Rattle.ql_cnf.specs.declared.lit.Lit.{Lit}
-use Rattle.ql_refute.specs.Partial.{Partial, nothing, with_true, is_open}
+use Rattle.ql_refute.specs.Partial.{Partial, nothing, with_true, is_not_false}
 use Rattle.ql_refute.specs.declared.refutation.Line.{Line}
 use Rattle.ql_sat.specs.Trail.{assigned_from, is_seen, NoneSeen}
 use Rattle.ql_sat.specs.Watch.{count_of, index_of, pair_at}
@@ -82,8 +82,8 @@ pub record IsVisiting (c : ClauseList) (trail : List Step) (lists : List (List �
 -- true, and of the clause's literals only the two that it watches may be other than false
 abbrev pub IsLook : List Lit → Lit → Lit → Partial → Look → Type 0
 IsLook d falsified other p Keep = p other.var ≡ Some other.positive
-IsLook d falsified other p (Move x) = (has_literal d x ≡ true) × (is_open p x ≡ true) × (x ≢ other)
-IsLook d falsified other p Read = (p other.var ≡ Some other.positive → ⊥) × All (λ x. is_open p x ≡ true → (x ≡ other) ⊎ (index_of x ≡ index_of falsified)) d
+IsLook d falsified other p (Move x) = (has_literal d x ≡ true) × (is_not_false p x ≡ true) × (x ≢ other)
+IsLook d falsified other p Read = (p other.var ≡ Some other.positive → ⊥) × All (λ x. is_not_false p x ≡ true → (x ≡ other) ⊎ (index_of x ≡ index_of falsified)) d
 
 -- x is the literal of the last of these steps whose variable is seen
 pub record IsLastSeen (seen : List Bool) (steps : List Step) (x : Lit) : Type 0 where

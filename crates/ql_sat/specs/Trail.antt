@@ -3,7 +3,7 @@ use Rattle.std.specs.Prelude.{ℕ, zero, suc, ◌+◌, ◌*◌, ◌^◌, ◌<◌
 use Rattle.std.specs.List.{AllByRecursion, slice_index_or}
 use Rattle.ql_cnf.specs.Satisfaction.{ClauseList, Satisfies}
 use Rattle.ql_cnf.specs.declared.lit.Lit.{Lit}
-use Rattle.ql_refute.specs.Marks.{marked, LinesInRange}
+use Rattle.ql_refute.specs.Marks.{assignment_of_marks, LinesInRange}
 use Rattle.ql_refute.specs.Partial.{Partial, nothing, with_true, reading}
 use Rattle.ql_refute.specs.Verdict.{hinted, hints_fault, AreGood}
 use Rattle.ql_refute.specs.declared.marks.Reading.{Reading}
@@ -11,7 +11,7 @@ use Rattle.ql_refute.specs.declared.marks.Reading.TheVariants.{AllFalse, Forces,
 use Rattle.ql_refute.specs.declared.refutation.Hint.{Hint}
 use Rattle.ql_refute.specs.declared.refutation.Line.{Line}
 use Rattle.ql_refute.specs.declared.refutation.Hint.TheVariants.{Earlier}
-use Rattle.ql_sat.specs.Answer.{AreNumbered, IsNumbered}
+use Rattle.ql_sat.specs.Answer.{AreNumbered, IsHintNumbered}
 use Rattle.ql_sat.specs.Search.{AgreesWith, unset_count}
 use Rattle.ql_sat.specs.declared.turn.Turn.{Turn}
 use Rattle.ql_sat.specs.declared.turn.Turn.TheVariants.{More, Model, Refuted}
@@ -40,7 +40,7 @@ pub record IsSearching (c : ClauseList) (lines : List Line) (trail : List Step) 
   pub in_range : LinesInRange c.variables lines
   pub numbered : AreNumbered lines
   pub steps : IsTrail c lines nothing trail
-  pub values : marked marks ≡ assigned_from nothing trail
+  pub values : assignment_of_marks marks ≡ assigned_from nothing trail
   pub room : length marks ≡ c.variables + 1
   pub counted : length trail + unset_count marks ≡ length marks
 
@@ -68,11 +68,11 @@ IsLonger Nothing n xs ys = ys ≡ xs
 
 -- the clause of the hint is false
 abbrev pub IsFalseClause : ClauseList → List Line → Hint → List ℕ → Type 0
-IsFalseClause c lines h marks = (d : List Lit) × (hinted c lines h ≡ Some d) × (reading (marked marks) d ≡ AllFalse)
+IsFalseClause c lines h marks = (d : List Lit) × (hinted c lines h ≡ Some d) × (reading (assignment_of_marks marks) d ≡ AllFalse)
 
 -- the clause of the hint forces a literal
 abbrev pub IsUnitClause : ClauseList → List Line → Hint → List ℕ → Type 0
-IsUnitClause c lines h marks = (d : List Lit) × (x : Lit) × (hinted c lines h ≡ Some d) × (reading (marked marks) d ≡ Forces x)
+IsUnitClause c lines h marks = (d : List Lit) × (x : Lit) × (hinted c lines h ≡ Some d) × (reading (assignment_of_marks marks) d ≡ Forces x)
 
 abbrev pub is_seen : List Bool → ℕ → Bool
 is_seen seen v = slice_index_or seen v false
@@ -104,8 +104,8 @@ pub record IsFirstAsserting (trail : List Step) (i : ℕ) (seen : List Bool) : T
   pub first : (k : ℕ) → IsAsserting trail k seen → i ≤ k
 
 -- no index from this one on is such and before the one that was found
-abbrev pub IsFirstFrom : List Step → List Bool → ℕ → Option ℕ → Type 0
-IsFirstFrom trail seen place found = (k : ℕ) → place ≤ k → IsAsserting trail k seen → MatchOption found ⊥ (λ i. i ≤ k)
+abbrev pub IsFirstAssertingFrom : List Step → List Bool → ℕ → Option ℕ → Type 0
+IsFirstAssertingFrom trail seen place found = (k : ℕ) → place ≤ k → IsAsserting trail k seen → MatchOption found ⊥ (λ i. i ≤ k)
 
 -- from any values that have those of the seen variables, and none of the later steps' variables, the hints in
 -- reverse come to a conflict
@@ -130,7 +130,7 @@ pub record IsAnalysis (c : ClauseList) (lines : List Line) (trail : List Step) (
   pub derived : IsDerived c lines trail (drop i trail) seen hints
   pub values : SeenHaveValues c.variables trail seen
   pub none : NoneSeen seen (drop i trail)
-  pub numbered : AllByRecursion IsNumbered hints
+  pub numbered : AllByRecursion IsHintNumbered hints
 
 -- what the result of a turn guarantees: the marks are a model, or a line is empty
 abbrev pub IsTurn : ClauseList → List Line → List ℕ → Turn → Type 0

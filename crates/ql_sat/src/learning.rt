@@ -3,13 +3,13 @@
 ghost use Rattle.std.specs.List.{slice_index_or};
 ghost use Rattle.std.specs.Prelude.{◌≡◌, ◌++◌, ◌∷◌, ◌||◌, is_some, ℕ, ◌+◌, ◌<◌, ◌^◌, drop, [], false, length, IfNone, IfOk, IfSome, if◌then◌else◌, ◌==◌, List, MatchOption, OnOk, None, Some, slice_get, take, true};
 ghost use Rattle.ql_cnf.specs.declared.lit.Lit.{Lit};
-ghost use Rattle.ql_refute.specs.Marks.{AllBelow, LinesInRange, has_variable, marked};
+ghost use Rattle.ql_refute.specs.Marks.{AllBelow, LinesInRange, has_variable, assignment_of_marks};
 ghost use Rattle.ql_refute.specs.Partial.{reading};
 ghost use Rattle.ql_refute.specs.Verdict.{hinted};
 ghost use Rattle.ql_refute.specs.declared.marks.Reading.{Reading};
 ghost use Rattle.ql_sat.specs.Settled.{IsGuarded, IsLastSeen, WatchesForced, with_lines};
 ghost use Rattle.ql_sat.specs.State.{IsAnalyzed, IsConflict, IsSoundTrail, IsSoundSearch, IsTaken};
-ghost use Rattle.ql_sat.specs.Trail.{IsAsserting, IsFalseClause, IsFirstAsserting, IsFirstFrom, IsLonger, IsOneSeen, IsUnitClause, NoneSeen, NothingSeen, is_seen, learned_to};
+ghost use Rattle.ql_sat.specs.Trail.{IsAsserting, IsFalseClause, IsFirstAsserting, IsFirstAssertingFrom, IsLonger, IsOneSeen, IsUnitClause, NoneSeen, NothingSeen, is_seen, learned_to};
 ghost use Rattle.ql_sat.specs.declared.trail.Trail.{Trail};
 ghost use Rattle.ql_sat.specs.declared.watches.Pair.{Pair};
 
@@ -141,8 +141,8 @@ fn read_learned(known: Known, number: u64, trail: &mut Trail) -> Result<(), NoMe
     ensures literal { OnOk result
         ((d : List Lit) (x : Lit)
         → hinted known.entry.given.now known.entry.lines.now (Hint.Earlier number) ≡ Some d
-        → reading (marked trail.old.marks.items) d ≡ Reading.Forces x
-        → marked trail.new.marks.items x.var ≡ Some x.positive) }
+        → reading (assignment_of_marks trail.old.marks.items) d ≡ Reading.Forces x
+        → assignment_of_marks trail.new.marks.items x.var ≡ Some x.positive) }
 {
     propagate_clause(known, Hint::Earlier(number), trail)?;
     Ok(())
@@ -321,9 +321,9 @@ fn decision(trail: &[Step], seen: &[bool], place: usize, later: Option<usize>) -
     requires within { place < length trail.now }
     requires one { IsOneSeen seen.now (drop place trail.now) }
     requires later { IfSome later (λ to. IsAsserting trail.now to seen.now) }
-    requires first { IsFirstFrom trail.now seen.now (place + 1) later }
+    requires first { IsFirstAssertingFrom trail.now seen.now (place + 1) later }
     ensures asserting { IfSome result (λ to. IsAsserting trail.now to seen.now) }
-    ensures first { IsFirstFrom trail.now seen.now place result }
+    ensures first { IsFirstAssertingFrom trail.now seen.now place result }
     ensures later { IfNone result (later ≡ None) }
     ensures none { IfNone result
         (is_some (slice_index_or trail.now place

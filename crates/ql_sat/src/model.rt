@@ -1,6 +1,6 @@
 // The end of a search: the model that its marks stand for.
 ghost use Rattle.std.specs.Prelude.{◌≡◌, ◌-◌, ◌<◌, ◌≤◌, IfOk, MatchOption, None, length};
-ghost use Rattle.ql_refute.specs.Marks.{marked};
+ghost use Rattle.ql_refute.specs.Marks.{assignment_of_marks};
 ghost use Rattle.ql_sat.specs.Search.{AgreesWith, IsTotal};
 
 use ql_base::NoMemory;
@@ -12,7 +12,7 @@ use std::alloc::Global;
 pub(crate) fn greatest_unset(variables: u32, marks: &[u8]) -> Option<u32>
     requires { variables < length marks.now }
     ensures { MatchOption result (IsTotal variables marks.now)
-        (λ v. (1 ≤ v) × (v ≤ variables) × (marked marks.now v ≡ None)) }
+        (λ v. (1 ≤ v) × (v ≤ variables) × (assignment_of_marks marks.now v ≡ None)) }
 {
     let mut var = variables;
     while var > 0 {

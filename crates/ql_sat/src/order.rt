@@ -1,6 +1,6 @@
 // Which variable is decided on next, and which value is tried first. No contract depends on this choice.
 ghost use Rattle.std.specs.Prelude.{◌≡◌, ◌≤◌, ◌<◌, length, IfSome, None};
-ghost use Rattle.ql_refute.specs.Marks.{marked};
+ghost use Rattle.ql_refute.specs.Marks.{assignment_of_marks};
 
 use ql_base::NoMemory;
 use ql_cnf::Lit;
@@ -63,7 +63,7 @@ impl Order {
     // The unset variable with the greatest activity among those in the heap.
     pub fn next(&mut self, variables: u32, marks: &[u8]) -> Option<u32>
         requires { variables < length marks.now }
-        ensures { IfSome result (λ v. (1 ≤ v) × (v ≤ variables) × (marked marks.now v ≡ None)) }
+        ensures { IfSome result (λ v. (1 ≤ v) × (v ≤ variables) × (assignment_of_marks marks.now v ≡ None)) }
     {
         for _ in 0..=variables {
             let var = self.pop()?;

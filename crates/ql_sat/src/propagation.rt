@@ -2,7 +2,7 @@
 ghost use Rattle.std.specs.Prelude.{◌≡◌, ◌+◌, ◌-◌, ◌<◌, ◌≤◌, ◌^◌, ℕ, [], length, IfNone, IfOk, IfSome, List, MatchOption, OnOk, Some};
 ghost use Rattle.std.specs.List.{slice_index_or};
 ghost use Rattle.ql_cnf.specs.declared.lit.Lit.{Lit};
-ghost use Rattle.ql_refute.specs.Marks.{LinesInRange, marked};
+ghost use Rattle.ql_refute.specs.Marks.{LinesInRange, assignment_of_marks};
 ghost use Rattle.ql_refute.specs.Verdict.{hinted};
 ghost use Rattle.ql_sat.specs.Settled.{IsLook};
 ghost use Rattle.ql_sat.specs.State.{AreGuarded, AreVisited, AreWatched, IsConflict, IsPropagated, IsSoundTrail, IsVisitOf, all_clauses};
@@ -153,7 +153,7 @@ fn look_at(known: Known, watcher: Watcher, other: Lit, marks: &[u8]) -> Look
     ensures away { IsAway watcher.falsified result }
     ensures look { (d : List Lit)
         → hinted known.entry.given.now known.entry.lines.now watcher.hint ≡ Some d
-        → IsLook d watcher.falsified other (marked marks.now) result }
+        → IsLook d watcher.falsified other (assignment_of_marks marks.now) result }
 {
     match hinted(known.given, known.lines, watcher.hint) {
         Some(clause) => inspect(clause, watcher.falsified, other, marks),

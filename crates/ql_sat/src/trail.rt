@@ -2,7 +2,7 @@
 ghost use Rattle.std.specs.Prelude.{◌≡◌, ◌+◌, ◌<◌, ◌≤◌, ◌++◌, ◌∷◌, [], IfOk, List, OnOk, None, Some, length, slice_set, take};
 ghost use Rattle.ql_cnf.specs.Satisfaction.{ClauseList};
 ghost use Rattle.ql_cnf.specs.declared.lit.Lit.{Lit};
-ghost use Rattle.ql_refute.specs.Marks.{IsClear, mark_of, marked};
+ghost use Rattle.ql_refute.specs.Marks.{IsClear, mark_of, assignment_of_marks};
 ghost use Rattle.ql_refute.specs.Partial.{reading};
 ghost use Rattle.ql_refute.specs.Verdict.{hinted};
 ghost use Rattle.ql_refute.specs.declared.refutation.Line.{Line};
@@ -92,11 +92,11 @@ pub(crate) fn propagate_clause(
         (λ visit. visit ≡ Visit.Conflict → IsConflict known.entry trail.new hint) }
     ensures visit { IfOk result
         (λ visit. (d : List Lit) → hinted known.entry.given.now known.entry.lines.now hint ≡ Some d
-        → visit ≡ visit_of (reading (marked trail.old.marks.items) d)) }
+        → visit ≡ visit_of (reading (assignment_of_marks trail.old.marks.items) d)) }
     ensures forced { OnOk result
         ((d : List Lit) (x : Lit) → hinted known.entry.given.now known.entry.lines.now hint ≡ Some d
-        → reading (marked trail.old.marks.items) d ≡ Reading.Forces x
-        → marked trail.new.marks.items x.var ≡ Some x.positive) }
+        → reading (assignment_of_marks trail.old.marks.items) d ≡ Reading.Forces x
+        → assignment_of_marks trail.new.marks.items x.var ≡ Some x.positive) }
     ensures number { IfOk result
         (λ visit. IsLonger visit (known.entry.given.now.variables + 1) trail.old.steps.items
         trail.new.steps.items) }
@@ -120,7 +120,7 @@ pub(crate) fn propagate_clause(
 // Makes a literal of an unset variable true.
 pub(crate) fn decide_on(lit: Lit, trail: &mut Trail) -> Result<(), NoMemory>
     requires in_range { lit.var < length trail.old.marks.items }
-    requires unset { marked trail.old.marks.items lit.var ≡ None }
+    requires unset { assignment_of_marks trail.old.marks.items lit.var ≡ None }
     ensures searching { OnOk result
         ((c : ClauseList) (lines : List Line)
         → IsSearching c lines trail.old.steps.items trail.old.marks.items

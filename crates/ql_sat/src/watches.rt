@@ -3,8 +3,8 @@ ghost use Rattle.std.specs.Prelude.{◌≡◌, ◌≢◌, ◌⊎◌, ℕ, ◌+�
 ghost use Rattle.std.specs.List.{slice_index_or};
 ghost use Rattle.ql_cnf.specs.Literals.{IsAscendingByVariable};
 ghost use Rattle.ql_cnf.specs.declared.lit.Lit.{Lit};
-ghost use Rattle.ql_refute.specs.Marks.{marked};
-ghost use Rattle.ql_refute.specs.Partial.{is_open, is_value};
+ghost use Rattle.ql_refute.specs.Marks.{assignment_of_marks};
+ghost use Rattle.ql_refute.specs.Partial.{is_not_false, is_value};
 ghost use Rattle.ql_sat.specs.Settled.{IsGuarded, IsLook, WatchesOwn};
 ghost use Rattle.ql_sat.specs.Watch.{AreListed, IsAway, IsListed, IsMoved, IsListedAt, beside, count_of, index_of, pair_at, replaced, replaced_literal};
 
@@ -248,7 +248,7 @@ pub(crate) fn hint_of(c: &Clauses, clause: usize) -> Hint
 // What becomes of a clause that watches a false literal and this other one.
 pub(crate) fn inspect(clause: &[Lit], falsified: Lit, other: Lit, marks: &[u8]) -> Look
     ensures away { IsAway falsified result }
-    ensures look { IsLook clause.now falsified other (marked marks.now) result }
+    ensures look { IsLook clause.now falsified other (assignment_of_marks marks.now) result }
 {
     if is_value(marks, other.var, other.positive) {
         return Look::Keep;
@@ -263,9 +263,9 @@ pub(crate) fn inspect(clause: &[Lit], falsified: Lit, other: Lit, marks: &[u8]) 
 
 // Whether the literal is neither false nor one of the two.
 fn is_free(lit: Lit, falsified: Lit, other: Lit, marks: &[u8]) -> bool
-    ensures free { result ≡ true → (is_open (marked marks.now) lit ≡ true) × (lit ≢ other)
+    ensures free { result ≡ true → (is_not_false (assignment_of_marks marks.now) lit ≡ true) × (lit ≢ other)
         × (index_of lit ≡ index_of falsified → ⊥) }
-    ensures others { result ≡ false → is_open (marked marks.now) lit ≡ true → (lit ≡ other)
+    ensures others { result ≡ false → is_not_false (assignment_of_marks marks.now) lit ≡ true → (lit ≡ other)
         ⊎ (index_of lit ≡ index_of falsified) }
 {
     if lit == other || index(lit) == index(falsified) {
@@ -276,7 +276,7 @@ fn is_free(lit: Lit, falsified: Lit, other: Lit, marks: &[u8]) -> bool
 
 // Whether the variable has the value.
 fn is_value(marks: &[u8], var: u32, value: bool) -> bool
-    ensures { result ≡ is_value (marked marks.now var) value }
+    ensures { result ≡ is_value (assignment_of_marks marks.now var) value }
 {
     let mark = if value { 1 } else { 2 };
     (var as usize) < marks.len() && marks[var as usize] == mark

@@ -2,7 +2,7 @@ ghost use Rattle.std.specs.Prelude.{◌≡◌, ◌<◌, ◌++◌, ◌∷◌, [],
 ghost use Rattle.ql_lines.specs.Texts.{spaced_fields, file_text, joined};
 ghost use Rattle.ql_typing.specs.Names.{op_name, txn_name};
 ghost use Rattle.ql_typing.specs.Operations.{all_ops};
-ghost use Rattle.ql_value.specs.Spelling.{quoted, value_text};
+ghost use Rattle.ql_value.specs.Spelling.{quoted_value, value_text};
 ghost use Rattle.ql_schedule.specs.Texts.{
   IsWellNamed,
   IsNamedEvent,
@@ -236,7 +236,7 @@ fn push_value(out: &mut Vec<u8>, value: &Value) -> Result<(), NoMemory>
 
 // A text in quotes.
 fn push_text(out: &mut Vec<u8>, text: &[u8]) -> Result<(), NoMemory>
-    ensures { OnOk result (out.new.items ≡ out.old.items ++ quoted text.now) }
+    ensures { OnOk result (out.new.items ≡ out.old.items ++ quoted_value text.now) }
 {
     push_bytes(out, b"\"")?;
     push_bytes(out, text)?;

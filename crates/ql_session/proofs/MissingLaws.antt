@@ -5,7 +5,7 @@ use Rattle.std.proofs.lemmas.Bool.{cases_Bool, false≢true, or_cases, or_left, 
 use Rattle.ql_base.specs.IdLists.{IsAscending, IsBelowAll, has_id}
 use Rattle.ql_base.specs.declared.ids.EffId.{EffId}
 use Rattle.ql_holder.specs.Closed.{Has}
-use Rattle.ql_session.specs.Notes.{IsLeastMissing, missing_with}
+use Rattle.ql_session.specs.Notes.{IsLeastUnseen, missing_with}
 
 -- ---- one id at the end
 
@@ -30,7 +30,7 @@ has-cases (other ∷ ids) id a has = elim (or_cases (nat_eq other a) (has_id (id
 -- ---- the least
 
 -- the view has the id
-known : (ids view : List ℕ) (id : ℕ) (least : Option EffId) → has_id view id ≡ true → IsLeastMissing ids view least → IsLeastMissing (ids ++ id ∷ []) view least
+known : (ids view : List ℕ) (id : ℕ) (least : Option EffId) → has_id view id ≡ true → IsLeastUnseen ids view least → IsLeastUnseen (ids ++ id ∷ []) view least
 known ids view id None has none = λ a is. elim (has-cases ids id a is) [ inl old ↦ none a old | inr new ↦ subst (λ (n : ℕ). Has view n) new has ]
 known ids view id (Some e) has is = record {
   fits = (has-old ids id e.0 is.fits.0, is.fits.1);
@@ -41,8 +41,8 @@ known ids view id (Some e) has is = record {
 }
 
 -- the view lacks the id
-lacked : (ids view : List ℕ) (id : ℕ) (least : Option EffId) → has_id view id ≡ false → IsLeastMissing ids view least
-    → IsLeastMissing (ids ++ id ∷ []) view (Some (record { 0 = option_map_or (λ (e : EffId). min e.0 id) least id }))
+lacked : (ids view : List ℕ) (id : ℕ) (least : Option EffId) → has_id view id ≡ false → IsLeastUnseen ids view least
+    → IsLeastUnseen (ids ++ id ∷ []) view (Some (record { 0 = option_map_or (λ (e : EffId). min e.0 id) least id }))
 lacked ids view id None lacks none = record {
   fits = (has-new ids id, lacks);
   least = λ b is. elim (has-cases ids id b is.0) [
@@ -65,7 +65,7 @@ lacked ids view id (Some e) lacks is = record {
     fits (inl same) = rw same (has-old ids id e.0 is.fits.0, is.fits.1)
     fits (inr same) = rw same (has-new ids id, lacks)
 
-pub missing-more : (ids view : List ℕ) (id : ℕ) (least : Option EffId) → IsLeastMissing ids view least → IsLeastMissing (ids ++ id ∷ []) view (missing_with view least id)
+pub missing-more : (ids view : List ℕ) (id : ℕ) (least : Option EffId) → IsLeastUnseen ids view least → IsLeastUnseen (ids ++ id ∷ []) view (missing_with view least id)
 missing-more ids view id least is = elim (cases_Bool (has_id view id)) [
   | inl has ↦ rw has (known ids view id least has is)
   | inr lacks ↦ rw lacks (lacked ids view id least lacks is)

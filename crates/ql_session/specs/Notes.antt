@@ -31,9 +31,9 @@ abbrev pub last_or_zero : List ℕ → ℕ
 last_or_zero numbers = slice_index numbers (length numbers - 1)
 
 -- the least of some ids that a view lacks, or none
-abbrev pub IsLeastMissing : List ℕ → List ℕ → Option EffId → Type 0
-IsLeastMissing ids view None = (a : ℕ) → Has ids a → Has view a
-IsLeastMissing ids view (Some least) = IsLeast (λ a. Has ids a × (has_id view a ≡ false)) least.0
+abbrev pub IsLeastUnseen : List ℕ → List ℕ → Option EffId → Type 0
+IsLeastUnseen ids view None = (a : ℕ) → Has ids a → Has view a
+IsLeastUnseen ids view (Some least) = IsLeast (λ a. Has ids a × (has_id view a ≡ false)) least.0
 
 -- the least missing id after one more: the lesser of both if a view lacks the id
 abbrev pub missing_with : List ℕ → Option EffId → ℕ → Option EffId

@@ -1,11 +1,11 @@
 ghost use Rattle.std.specs.Prelude.{◌≡◌};
-ghost use Rattle.ql_session.specs.Notes.{missing_with, IsLeastMissing};
+ghost use Rattle.ql_session.specs.Notes.{missing_with, IsLeastUnseen};
 
 use ql_base::{EffId, IdSet};
 
 /// The least of some ids that a view lacks. They may be in any order.
 pub(crate) fn least_missing_of(ids: &[u32], view: &IdSet) -> Option<EffId>
-    ensures { IsLeastMissing ids.now view.now result }
+    ensures { IsLeastUnseen ids.now view.now result }
 {
     let mut least = None;
     for id in ids {

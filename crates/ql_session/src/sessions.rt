@@ -1,7 +1,7 @@
 ghost use Rattle.std.specs.Prelude.{◌≡◌, ◌-◌, ◌≤◌, ◌∷◌, ◌++◌, [], length, take, IfOk, OnOk, OnErr};
 ghost use Rattle.ql_session.specs.Executions.{notes_of};
 ghost use Rattle.ql_session.specs.Past.{IsLeastOf, IsMissingPast};
-ghost use Rattle.ql_session.specs.Notes.{effects_by, effects_on, stamps_of, last_or_zero, IsLeastMissing};
+ghost use Rattle.ql_session.specs.Notes.{effects_by, effects_on, stamps_of, last_or_zero, IsLeastUnseen};
 
 use crate::index::Index;
 use crate::missing::least_missing_of;
@@ -106,7 +106,7 @@ impl Sessions {
     /// The least effect of the session on the object that the view lacks. Looks up each of the
     /// session's effects on the object once.
     pub fn least_missing(&self, s: SessId, o: ObjId, view: &IdSet) -> Option<EffId>
-        ensures { IsLeastMissing (effects_by self.now s o) view.now result }
+        ensures { IsLeastUnseen (effects_by self.now s o) view.now result }
     {
         least_missing_of(self.index.pair(s, o), view)
     }

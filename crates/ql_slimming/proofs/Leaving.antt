@@ -24,7 +24,7 @@ use Rattle.ql_store.specs.Viewing.{IsAppliedOn}
 use Rattle.ql_typing.specs.Operations.{all_ops, op_kinds}
 use Rattle.ql_summary.specs.declared.kept.KeptObject.{KeptObject}
 use Rattle.ql_summary.specs.Covering.{ComeLater, Covers}
-use Rattle.ql_summary.specs.Keeping.{AreOn, ids_of, is_kept, nothing_kept}
+use Rattle.ql_summary.specs.Keeping.{AreOn, kept_ids_of, is_kept, nothing_kept}
 use Rattle.ql_summary.specs.Slimming.{bare, slim_effect, slim_of}
 use Rattle.ql_summary.specs.Standing.{AreOfType, FitOperations, IsFormOf, StandsFor}
 use Rattle.ql_summary.proofs.SlimForms.{bare_slim, slim_at}
@@ -64,7 +64,7 @@ pub record IsKeeping (p : Program) (s : Machine) (objects n : ℕ) (kept : List 
   pub count : length kept ≡ objects
   pub stands : StandsFor p.types kept s.effects
   pub stable : AreKept s n kept
-  pub empty : (o : ObjId) → n ≤ o.0 → ids_of kept o ≡ []
+  pub empty : (o : ObjId) → n ≤ o.0 → kept_ids_of kept o ≡ []
 
 nothing_at : (n k : ℕ) (one : KeptObject) → slice_get (replicate n nothing_kept) k ≡ Some one → nothing_kept ≡ one
 nothing_at zero k one is = let no : None ≡ Some one = is in absurd cc
@@ -92,22 +92,22 @@ same_object : (q o : ObjId) → q.0 ≡ o.0 → q ≡ o
 same_object q o same = ap (λ (n : ℕ). let r : ObjId = record { 0 = n } in r) same
 
 pub keeping_goes : (p : Program) (s : Machine) (objects n : ℕ) (kept next : List KeptObject) (o : ObjId) (more : List ℕ) → o.0 ≡ n → IsKeeping p s objects n kept → AreThose (IsStable s o) more
-    → length next ≡ length kept → StandsFor p.types next s.effects → ids_of next o ≡ union_of more (ids_of kept o) → ((q : ObjId) → (q ≡ o → ⊥) → slice_get next q.0 ≡ slice_get kept q.0)
+    → length next ≡ length kept → StandsFor p.types next s.effects → kept_ids_of next o ≡ union_of more (kept_ids_of kept o) → ((q : ObjId) → (q ≡ o → ⊥) → slice_get next q.0 ≡ slice_get kept q.0)
     → IsKeeping p s objects (n + 1) next
 keeping_goes p s objects n kept next o more number was those count stands gained others = record {
   count = count ∙ was.count;
   stands = stands;
   stable = λ q less. elim (cases_Bool (nat_eq q.0 o.0)) [
-    | inl here ↦ (let same = same_object q o (eqb-true q.0 o.0 here) in subst (λ (r : ObjId). AreThose (IsStable s r) (ids_of next r)) (sym same) (subst (AreThose (IsStable s o)) (sym now) those))
+    | inl here ↦ (let same = same_object q o (eqb-true q.0 o.0 here) in subst (λ (r : ObjId). AreThose (IsStable s r) (kept_ids_of next r)) (sym same) (subst (AreThose (IsStable s o)) (sym now) those))
     | inr other ↦ (let apart = differ q o other in subst (AreThose (IsStable s q)) (sym (elsewhere q apart)) (was.stable q (let far = λ (e : q.0 ≡ n). apart (same_object q o (e ∙ sym number)) in omega (arith, less, far))))
   ];
   empty = λ q le. elsewhere q (λ same. (let e = ap (λ (r : ObjId). r.0) same in absurd (omega (arith, le, e, number)))) ∙ was.empty q (omega arith);
 }
   where
-    now : ids_of next o ≡ more
+    now : kept_ids_of next o ≡ more
     now = gained ∙ ap (union_of more) (was.empty o (omega (arith, number))) ∙ union_of-nothing more those.ascending
 
-    elsewhere : (q : ObjId) → (q ≡ o → ⊥) → ids_of next q ≡ ids_of kept q
+    elsewhere : (q : ObjId) → (q ≡ o → ⊥) → kept_ids_of next q ≡ kept_ids_of kept q
     elsewhere q apart = ap (λ (k : Option KeptObject). option_map_or (λ (one : KeptObject). one.ids) k []) (others q apart)
 
     differ : (q r : ObjId) → nat_eq q.0 r.0 ≡ false → q ≡ r → ⊥
@@ -126,7 +126,7 @@ all_stable p n kinds s kept ids fits stable those = record {
   only = λ a has. of_kept a (effect_at s.effects a) refl (those.only a has);
 }
   where
-    of_kept : (a : ℕ) (u : Option Effect) → effect_at s.effects a ≡ u → one (λ e. has_id (ids_of kept e.object) a) u ≡ true → IsStableEffect s a
+    of_kept : (a : ℕ) (u : Option Effect) → effect_at s.effects a ≡ u → one (λ e. has_id (kept_ids_of kept e.object) a) u ≡ true → IsStableEffect s a
     of_kept a None at is = let no : false ≡ true = is in absurd cc
     of_kept a (Some e) at is = (e.object, (stable e.object (fit_at p n kinds s.effects fits a e at).object).only a is)
 
@@ -154,17 +154,17 @@ later_slim kept x ids seen later a b e f has hasb lacks at atb =
     subst (λ (u : Effect). comes_before e u ≡ true) h.2 (subst (λ (u : Effect). comes_before u (slim_effect kept b h.0) ≡ true) g.2 left)
 
 module _ (p : Program) (objects : ℕ) (kinds : List TypeId) (count : ℕ) (s : Machine) (kept : List KeptObject) (small : List Effect) (left : IsLeft p objects kinds count s kept small) (o : ObjId) (here : o.0 < objects) (r : ℕ) (within : r < replicas s) (view : List ℕ) (those : AreThose (IsAppliedOn s (replica_of r) o) view) where
-  stable_here : AreThose (IsStable s o) (ids_of kept o)
+  stable_here : AreThose (IsStable s o) (kept_ids_of kept o)
   stable_here = left.stable o here
 
-  all_seen : (a : ℕ) → has_id (ids_of kept o) a ≡ true → has_id view a ≡ true
+  all_seen : (a : ℕ) → has_id (kept_ids_of kept o) a ≡ true → has_id view a ≡ true
   all_seen a has =
       let stable = stable_here.only a has in
       let e = at_on s.effects o a stable.on in
       those.all a (stable.on, stable.closed a e.0 e.0 e.1 e.1 e.2 (never e.0) r within)
 
   -- what is stable comes before all else that is seen
-  come_later : ComeLater s.effects (ids_of kept o) view
+  come_later : ComeLater s.effects (kept_ids_of kept o) view
   come_later a b e f has hasb lacks at atb = by (comes_before e f) refl
     where
       on_b : IsOn o (effect_at s.effects b)
@@ -182,8 +182,8 @@ module _ (p : Program) (objects : ℕ) (kinds : List TypeId) (count : ℕ) (s : 
           let no : true ≡ false = sym (stable_here.all b too) ∙ lacks in
           cc
 
-  pub is_covered : Covers small (ids_of kept o) view
-  is_covered = subst (λ (x : List Effect). Covers x (ids_of kept o) view) left.slim (record { all = all_seen; later = later_slim kept s.effects (ids_of kept o) view come_later })
+  pub is_covered : Covers small (kept_ids_of kept o) view
+  is_covered = subst (λ (x : List Effect). Covers x (kept_ids_of kept o) view) left.slim (record { all = all_seen; later = later_slim kept s.effects (kept_ids_of kept o) view come_later })
 
   pub are_on : AreOn small o view
   are_on a has = subst (λ (x : List Effect). IsOn o (effect_at x a)) left.slim (slim_on kept s.effects o a (those.only a has).0)
@@ -239,10 +239,10 @@ module _ (p : Program) (objects n : ℕ) (kinds : List TypeId) (s : Machine) (ke
   pub still_stands : (y : List Effect) × StandsFor p.types kept y × IsFormOf kept x y
   still_stands = (s.effects, keeping.stands, inl same)
 
-  none_kept : (a : ℕ) → has_id (ids_of kept o) a ≡ false
+  none_kept : (a : ℕ) → has_id (kept_ids_of kept o) a ≡ false
   none_kept a = ap (λ ids. has_id ids a) (keeping.empty o (omega (arith, number)))
 
-  pub all_later : (others : List ℕ) → ComeLater x (ids_of kept o) others
+  pub all_later : (others : List ℕ) → ComeLater x (kept_ids_of kept o) others
   all_later others a b e f has hasb lacks at atb = let no : true ≡ false = sym has ∙ none_kept a in cc
 
   pub is_typed : All (FitsSchedule p objects kinds) s.effects → o.0 < length kinds → (kind : ℕ) × AreOfType p.types x o kind
@@ -251,7 +251,7 @@ module _ (p : Program) (objects n : ℕ) (kinds : List TypeId) (s : Machine) (ke
   pub is_fit : All (FitsSchedule p objects kinds) s.effects → (ids : List ℕ) → FitOperations p.types x ids
   is_fit fits ids = subst (λ (y : List Effect). FitOperations p.types y ids) (sym same) (payloads_fit p objects kinds s.effects fits ids)
 
-  pub stays_new : (more : List ℕ) (a : ℕ) → has_id more a ≡ true → has_id (ids_of kept o) a ≡ false
+  pub stays_new : (more : List ℕ) (a : ℕ) → has_id more a ≡ true → has_id (kept_ids_of kept o) a ≡ false
   stays_new more a has = none_kept a
 
   pub stable_on_object : (more : List ℕ) → AreThose (IsStable s o) more → AreOn x o more

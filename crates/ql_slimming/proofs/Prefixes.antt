@@ -17,7 +17,7 @@ use Rattle.ql_machine.specs.State.{Machine, replicas}
 use Rattle.ql_store.specs.Viewing.{IsAppliedOn}
 use Rattle.ql_store.proofs.BeginLaws.{first-all, first-more, first-same}
 use Rattle.ql_summary.specs.declared.kept.KeptObject.{KeptObject}
-use Rattle.ql_summary.specs.Keeping.{ids_of}
+use Rattle.ql_summary.specs.Keeping.{kept_ids_of}
 use Rattle.ql_slimming.specs.Answers.{replica_of}
 use Rattle.ql_slimming.specs.Ready.{IsKeptAt, is_kept_at}
 use Rattle.ql_slimming.specs.Stability.{AreViews, IsAppliedEverywhere, IsFirstOpen, IsStable, comes_earlier, is_on, is_open}
@@ -267,6 +267,6 @@ kept_found x kept ids k past those = first-all (IsKeptAt x kept) k ids (λ a is.
     within zero is = let no : false ≡ true = is in absurd cc
     within (suc k) is = by (effect_at x (suc k)) refl is
       where
-        by : (u : Option Effect) → effect_at x (suc k) ≡ u → one (λ e. has_id (ids_of kept e.object) (suc k)) u ≡ true → (1 ≤ suc k) × (suc k ≤ length x)
+        by : (u : Option Effect) → effect_at x (suc k) ≡ u → one (λ e. has_id (kept_ids_of kept e.object) (suc k)) u ≡ true → (1 ≤ suc k) × (suc k ≤ length x)
         by None at is = let no : false ≡ true = is in absurd cc
         by (Some e) at is = (omega arith, effect_at-within x (suc k) e at)

@@ -10,14 +10,14 @@ use Rattle.ql_machine.specs.Sets.{AreThose}
 use Rattle.ql_machine.specs.State.{Machine}
 use Rattle.ql_runs.specs.Keeping.{FitsSchedule}
 use Rattle.ql_summary.specs.declared.kept.KeptObject.{KeptObject}
-use Rattle.ql_summary.specs.Keeping.{ids_of}
+use Rattle.ql_summary.specs.Keeping.{kept_ids_of}
 use Rattle.ql_summary.specs.Slimming.{slim_of}
 use Rattle.ql_summary.specs.Standing.{StandsFor}
 use Rattle.ql_slimming.specs.Stability.{IsStable}
 
 -- of the first objects exactly the stable effects are kept
 abbrev pub AreKept : Machine → ℕ → List KeptObject → Type 0
-AreKept s n kept = (o : ObjId) → o.0 < n → AreThose (IsStable s o) (ids_of kept o)
+AreKept s n kept = (o : ObjId) → o.0 < n → AreThose (IsStable s o) (kept_ids_of kept o)
 
 pub record IsLeft (p : Program) (objects : ℕ) (kinds : List TypeId) (n : ℕ) (s : Machine) (kept : List KeptObject) (small : List Effect) : Type 0 where
   pub typed : length kinds ≡ objects
@@ -30,7 +30,7 @@ pub record IsLeft (p : Program) (objects : ℕ) (kinds : List TypeId) (n : ℕ) 
 
 -- an effect is kept of its object
 abbrev pub is_kept_at : List Effect → List KeptObject → ℕ → Bool
-is_kept_at x kept a = one (λ e. has_id (ids_of kept e.object) a) (effect_at x a)
+is_kept_at x kept a = one (λ e. has_id (kept_ids_of kept e.object) a) (effect_at x a)
 
 abbrev pub IsKeptAt : List Effect → List KeptObject → ℕ → Type 0
 IsKeptAt x kept a = is_kept_at x kept a ≡ true

@@ -12,7 +12,7 @@ use Rattle.ql_machine.specs.declared.reply.Reply.{Reply}
 use Rattle.ql_machine.specs.State.{Machine}
 use Rattle.ql_machine.specs.Runs.{IsRun}
 use Rattle.ql_running.specs.Runs.{NoRunSays}
-use Rattle.ql_running.specs.Soundness.{IsSound}
+use Rattle.ql_running.specs.Soundness.{IsSoundRun}
 use Rattle.ql_schedule.specs.declared.schedule.Schedule.{Schedule}
 use Rattle.ql_schedule.specs.Files.{IsScheduleFile}
 use Rattle.ql_slimming.specs.Answers.{IsSlimText}
@@ -29,7 +29,7 @@ pub record ReportsSlim (source file text : List ℕ) : Type 0 where
   pub is_schedule : IsScheduleFile program (ahead_from 1 file) schedule
   pub are_least : AreLevelsOf program levels
   pub run : IsRun (rules_of program levels) schedule.replicas schedule.events replies last
-  pub sound : IsSound program last.effects
+  pub sound : IsSoundRun program last.effects
   pub printed : IsSlimText program schedule.objects schedule.kinds last text
 
 abbrev pub SlimSays : List ℕ → List ℕ → Status → List ℕ → Type 0

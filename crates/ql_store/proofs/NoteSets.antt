@@ -19,7 +19,7 @@ use Rattle.ql_holder.specs.Needs.{AreThere}
 use Rattle.ql_machine.specs.Blocking.{IsOf}
 use Rattle.ql_machine.specs.Sets.{AreThose}
 use Rattle.ql_session.specs.declared.note.Note.{Note}
-use Rattle.ql_session.specs.Notes.{IsLeastMissing, effects_by, effects_on}
+use Rattle.ql_session.specs.Notes.{IsLeastUnseen, effects_by, effects_on}
 use Rattle.ql_session.specs.Executions.{note_of, notes_of}
 use Rattle.ql_session.specs.Past.{IsLeastOf, IsMissingPast}
 use Rattle.ql_session.proofs.NoteLaws.{those, object-is, notes_after-push}
@@ -40,7 +40,7 @@ by-those x s o =
     (λ a e pass. (let parts = and_parts (nat_eq e.session.0 s.0) (nat_eq e.object.0 o.0) pass in (object-is e.object o parts.1, session-is e.session s parts.0)))
 
 -- the least of a session's effects on an object that a view lacks
-pub lacking-causal : (x : List Effect) (s : SessId) (o : ObjId) (view : List ℕ) (least : Option EffId) → IsLeastMissing (effects_by (notes_of x) s o) view least
+pub lacking-causal : (x : List Effect) (s : SessId) (o : ObjId) (view : List ℕ) (least : Option EffId) → IsLeastUnseen (effects_by (notes_of x) s o) view least
     → IsLeastLacking x Causal s o view least
 lacking-causal x s o view None is = λ a wanted. is a ((by-those x s o).all a wanted)
 lacking-causal x s o view (Some least) is = record {

@@ -19,7 +19,7 @@ use Rattle.ql_lang.specs.declared.program.TypeDecl.{TypeDecl}
 use Rattle.ql_typing.specs.Operations.{op_kinds}
 use Rattle.ql_summary.specs.declared.kept.KeptObject.{KeptObject}
 use Rattle.ql_summary.specs.Covering.{ComeLater}
-use Rattle.ql_summary.specs.Keeping.{AreOn, ids_of, is_kept}
+use Rattle.ql_summary.specs.Keeping.{AreOn, kept_ids_of, is_kept}
 use Rattle.ql_summary.specs.Slimming.{bare, slim_effect, slim_of}
 use Rattle.ql_summary.specs.Standing.{IsFormOf, StandsFor}
 use Rattle.ql_summary.proofs.IdParts.{front_and, has_union}
@@ -75,16 +75,16 @@ one_object o p (Some e) h g = sym h ∙ g
 
 module _ (types : List TypeDecl) (kept : List KeptObject) (y : List Effect) (stands : StandsFor types kept y) where
   -- what is kept is kept of its own object
-  pub kept_of_object : (o : ObjId) (a : ℕ) → IsOn o (effect_at y a) → is_kept kept a ≡ true → has_id (ids_of kept o) a ≡ true
+  pub kept_of_object : (o : ObjId) (a : ℕ) → IsOn o (effect_at y a) → is_kept kept a ≡ true → has_id (kept_ids_of kept o) a ≡ true
   kept_of_object o a on is =
       let found = any_at (λ one. has_id one.ids a) kept is in
       let p : ObjId = record { 0 = found.0 } in
       let own = stands p found.1 found.2 (some_id found.1.ids a found.3) in
       let same : p ≡ o = one_object p o (effect_at y a) (own.on a found.3) on in
-      let there : ids_of kept p ≡ found.1.ids = rw found.2 refl in
-      subst (λ (q : ObjId). has_id (ids_of kept q) a ≡ true) same (rw there found.3)
+      let there : kept_ids_of kept p ≡ found.1.ids = rw found.2 refl in
+      subst (λ (q : ObjId). has_id (kept_ids_of kept q) a ≡ true) same (rw there found.3)
 
-  pub not_kept : (o : ObjId) (a : ℕ) → IsOn o (effect_at y a) → has_id (ids_of kept o) a ≡ false → is_kept kept a ≡ false
+  pub not_kept : (o : ObjId) (a : ℕ) → IsOn o (effect_at y a) → has_id (kept_ids_of kept o) a ≡ false → is_kept kept a ≡ false
   not_kept o a on lacks = by (is_kept kept a) refl
     where
       by : (b : Bool) → is_kept kept a ≡ b → b ≡ false
@@ -134,7 +134,7 @@ module _ (types : List TypeDecl) (kept : List KeptObject) (x y : List Effect) (a
   effect_in a f at = found_bare (effect_at x a) f (agree.bare_ones a ∙ ap (option_map bare) at)
 
   -- what isn't kept is the same in both
-  pub same_others : (o : ObjId) (ids : List ℕ) → AreOn x o ids → ((a : ℕ) → has_id ids a ≡ true → has_id (ids_of kept o) a ≡ false) → seen_in_order x ids ≡ seen_in_order y ids
+  pub same_others : (o : ObjId) (ids : List ℕ) → AreOn x o ids → ((a : ℕ) → has_id ids a ≡ true → has_id (kept_ids_of kept o) a ≡ false) → seen_in_order x ids ≡ seen_in_order y ids
   same_others o ids on new = same_found x y ids (λ a has. agree.others a (not_kept types kept y stands o a (on_other o a (on a has)) (new a has)))
 
   -- and so is the order

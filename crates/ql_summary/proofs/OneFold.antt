@@ -14,7 +14,7 @@ use Rattle.ql_lang.specs.declared.program.TypeDecl.{TypeDecl}
 use Rattle.ql_typing.specs.Operations.{op_kinds}
 use Rattle.ql_summary.specs.declared.kept.KeptObject.{KeptObject}
 use Rattle.ql_summary.specs.Covering.{ComeLater, Covers}
-use Rattle.ql_summary.specs.Keeping.{AreOn, ids_of}
+use Rattle.ql_summary.specs.Keeping.{AreOn, kept_ids_of}
 use Rattle.ql_summary.specs.Standing.{IsComeTo, StandsFor, come_to}
 use Rattle.ql_summary.proofs.IdParts.{has_part, has_union, kept_of_union, part_is, rest_of_union}
 use Rattle.ql_summary.proofs.KeptStates.{Agree, kept_type, later_in_both, same_others, seen_each}
@@ -47,7 +47,7 @@ others_in ids seen a has =
     denied true h = cc
     denied false h = refl
 
-pub ids_there : (kept : List KeptObject) (o : ObjId) (one : KeptObject) → slice_get kept o.0 ≡ Some one → ids_of kept o ≡ one.ids
+pub ids_there : (kept : List KeptObject) (o : ObjId) (one : KeptObject) → slice_get kept o.0 ≡ Some one → kept_ids_of kept o ≡ one.ids
 ids_there kept o one there = rw there refl
 
 module _ (types : List TypeDecl) (kept : List KeptObject) (x y : List Effect) (agree : Agree kept x y) (stands : StandsFor types kept y) (o : ObjId) (one : KeptObject) (there : slice_get kept o.0 ≡ Some one) (kind : ℕ) (typed : (a : ℕ) (e : Effect) → has_id one.ids a ≡ true → effect_at x a ≡ Some e → slice_get (op_kinds types) e.op.0 ≡ Some kind) where

@@ -14,8 +14,8 @@ abbrev pub nothing_kept : KeptObject
 nothing_kept = record { ids = []; state = [] }
 
 -- the ids that are kept of an object
-abbrev pub ids_of : List KeptObject → ObjId → List ℕ
-ids_of kept o = option_map_or (λ one. one.ids) (slice_get kept o.0) []
+abbrev pub kept_ids_of : List KeptObject → ObjId → List ℕ
+kept_ids_of kept o = option_map_or (λ one. one.ids) (slice_get kept o.0) []
 
 -- an id is kept, of whatever object
 abbrev pub is_kept : List KeptObject → ℕ → Bool

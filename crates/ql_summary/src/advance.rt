@@ -6,7 +6,7 @@ ghost use Rattle.ql_eval.specs.Folds.{fold_of};
 ghost use Rattle.ql_exec.specs.declared.effect.Effect.{Effect};
 ghost use Rattle.ql_exec.specs.Folding.{seen_in_order};
 ghost use Rattle.ql_summary.specs.Covering.{ComeLater};
-ghost use Rattle.ql_summary.specs.Keeping.{AreOn, ids_of};
+ghost use Rattle.ql_summary.specs.Keeping.{AreOn, kept_ids_of};
 ghost use Rattle.ql_summary.specs.Standing.{AreOfType, FitOperations, IsComeTo, IsFormOf, StandsFor};
 
 use crate::kept::{Kept, KeptObject};
@@ -31,11 +31,11 @@ impl Kept {
         requires stands { (y : List Effect) × StandsFor t.now.program.types self.old y
             × IsFormOf self.old x.now y }
         requires on { AreOn x.now o more.now }
-        requires new { (a : ℕ) → has_id more.now a ≡ true → has_id (ids_of self.old o) a ≡ false }
-        requires later { ComeLater x.now (ids_of self.old o) more.now }
+        requires new { (a : ℕ) → has_id more.now a ≡ true → has_id (kept_ids_of self.old o) a ≡ false }
+        requires later { ComeLater x.now (kept_ids_of self.old o) more.now }
         requires one_type { (kind : ℕ) × AreOfType t.now.program.types x.now o kind }
         requires fit { FitOperations t.now.program.types x.now more.now }
-        ensures gained { OnOk result (ids_of self.new o ≡ union_of more.now (ids_of self.old o)) }
+        ensures gained { OnOk result (kept_ids_of self.new o ≡ union_of more.now (kept_ids_of self.old o)) }
         ensures others { (p : ObjectNumber) → (p ≡ o → ⊥)
             → slice_get self.new p.0 ≡ slice_get self.old p.0 }
         ensures count { length self.new ≡ length self.old }

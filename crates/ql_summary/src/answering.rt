@@ -4,7 +4,7 @@ ghost use Rattle.ql_eval.specs.Folds.{answered_of};
 ghost use Rattle.ql_exec.specs.declared.effect.Effect.{Effect};
 ghost use Rattle.ql_exec.specs.Folding.{seen_in_order};
 ghost use Rattle.ql_summary.specs.Covering.{Covers};
-ghost use Rattle.ql_summary.specs.Keeping.{AreOn, ids_of};
+ghost use Rattle.ql_summary.specs.Keeping.{AreOn, kept_ids_of};
 ghost use Rattle.ql_summary.specs.Slimming.{slim_of};
 ghost use Rattle.ql_summary.specs.Standing.{StandsFor};
 
@@ -36,7 +36,7 @@ pub fn answer_with(
     requires in_range { o.0 < length kept.now }
     requires stands { (x : List Effect) × StandsFor t.now.program.types kept.now x
         × (slim_of kept.now x ≡ small.now) }
-    requires covers { Covers small.now (ids_of kept.now o) seen.now }
+    requires covers { Covers small.now (kept_ids_of kept.now o) seen.now }
     requires on { AreOn small.now o seen.now }
     requires able { IsAble t.now.program.types op.0 args.now (seen_in_order small.now seen.now) }
     ensures { IfOk result

@@ -4,7 +4,7 @@ ghost use Rattle.std.specs.Option.{option_copied};
 ghost use Rattle.ql_base.specs.IdLists.{IsAscending, has_id, with_id};
 ghost use Rattle.ql_exec.specs.Effects.{both, effect_at};
 ghost use Rattle.ql_exec.specs.Folding.{comes_before};
-ghost use Rattle.ql_summary.specs.Keeping.{AreEffects, ids_of};
+ghost use Rattle.ql_summary.specs.Keeping.{AreEffects, kept_ids_of};
 ghost use Rattle.ql_summary.specs.Covering.{Covers, IsLast, later_of};
 
 use crate::kept::Kept;
@@ -16,9 +16,9 @@ use std::alloc::Global;
 /// Then the fold over what is seen can continue from the kept state.
 pub fn covers(kept: &Kept, o: ObjId, x: &Execution, seen: &IdSet) -> bool
     requires in_range { o.0 < length kept.now }
-    requires kept { AreEffects x.now (ids_of kept.now o) }
+    requires kept { AreEffects x.now (kept_ids_of kept.now o) }
     requires seen { AreEffects x.now seen.now }
-    ensures { (result ≡ true) ↔ Covers x.now (ids_of kept.now o) seen.now }
+    ensures { (result ≡ true) ↔ Covers x.now (kept_ids_of kept.now o) seen.now }
 {
     let ids = kept.ids(o);
     match last_of(x, ids) {

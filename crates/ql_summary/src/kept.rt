@@ -1,5 +1,5 @@
 ghost use Rattle.std.specs.Prelude.{◌≡◌, ◌<◌, Some, length, replicate, set, slice_get, IfOk};
-ghost use Rattle.ql_summary.specs.Keeping.{ids_of, nothing_kept};
+ghost use Rattle.ql_summary.specs.Keeping.{kept_ids_of, nothing_kept};
 
 use ql_base::{IdSet, NoMemory, ObjId};
 use ql_eval::Env;
@@ -59,7 +59,7 @@ impl Kept {
     /// The effects on an object that are kept.
     pub fn ids(&self, o: ObjId) -> &IdSet
         requires { o.0 < length self.now }
-        ensures { result.now ≡ ids_of self.now o }
+        ensures { result.now ≡ kept_ids_of self.now o }
     {
         &self.objects[o.0 as usize].ids
     }

@@ -11,7 +11,7 @@ use Rattle.ql_value.specs.Collections.{IsMap, IsSet}
 use Rattle.ql_value.specs.Contents.{value_of_scalar}
 use Rattle.ql_value.specs.Order.{key_cmp, scalar_cmp}
 use Rattle.ql_value.specs.Spelling.{scalar_text}
-use Rattle.ql_value.specs.Reading.{Read, after_spaces, behind_item, collection_at, elements_at, entries_at, entry_value_at, follows, is_byte, on_read, scalar_at, value_at, word_at}
+use Rattle.ql_value.specs.Reading.{Read, after_spaces, behind_item, collection_at, elements_at, entries_at, entry_value_at, may_follow, is_byte, on_read, scalar_at, value_at, word_at}
 use Rattle.ql_value.specs.ValueGrammar.{IsEntry, IsScalar, ReadsEntry, ReadsScalar, ReadsValue, spaces}
 use Rattle.ql_value.proofs.ScalarGrammar.{begins_with, chosen, scalar_takes}
 use Rattle.ql_value.proofs.ScalarOrder.{keys_total, scalars_total}
@@ -47,10 +47,10 @@ pub elements_before : (room : ℕ) (s : List Scalar) (text : List ℕ) (left : �
 unfolding elements_at
 elements_before zero s text left so h = let len : length text ≡ left = cc in at_start (SetStart s) text left len (last_element zero s so [] no_byte)
 elements_before (suc room) s text left so h =
-    fault_after (Before (SetStart s) text left) (scalar_at text) (λ e rest. cond (follows scalar_cmp s e) (behind_item (Set (s ++ e ∷ [])) (elements_at room (s ++ e ∷ [])) rest) (Err (length text))) left h
+    fault_after (Before (SetStart s) text left) (scalar_at text) (λ e rest. cond (may_follow scalar_cmp s e) (behind_item (Set (s ++ e ∷ [])) (elements_at room (s ++ e ∷ [])) rest) (Err (length text))) left h
     (λ fault. weaker ScalarStart (SetStart s) text left (last_element (suc room) s so) (scalar_before text left fault))
     (λ e rest read i. let fits = scalar_fits text rest e read in
-    chosen {A = Read Value} (Before (SetStart s) text left) (follows scalar_cmp s e) (behind_item (Set (s ++ e ∷ [])) (elements_at room (s ++ e ∷ [])) rest) (Err (length text)) (Err left) i
+    chosen {A = Read Value} (Before (SetStart s) text left) (may_follow scalar_cmp s e) (behind_item (Set (s ++ e ∷ [])) (elements_at room (s ++ e ∷ [])) rest) (Err (length text)) (Err left) i
     (λ f j. item_step (λ x a b. ReadsScalar x a b) SetButLast s e text rest left (Set (s ++ e ∷ [])) (elements_at room (s ++ e ∷ [])) (element_starts text rest e read) (set_last (suc room) s e so fits) j
     (λ t k. elements_before room (s ++ e ∷ []) t left (grows scalar_cmp scalars_total IsScalar room s e so f fits) k))
     (λ f j. let len : length text ≡ left = cc in at_start (SetStart s) text left len (last_element (suc room) s so [] no_byte)))
@@ -140,7 +140,7 @@ entry_starts text mid rest k v key value = record {
   any = λ follow. record { gap = value.gap; spelled = entry_split k v value.gap follow };
 }
 
-pub entry_follows : (m : List (Scalar × Scalar)) (k v : Scalar) → follows key_cmp m (k, k) ≡ true → follows key_cmp m (k, v) ≡ true
+pub entry_follows : (m : List (Scalar × Scalar)) (k v : Scalar) → may_follow key_cmp m (k, k) ≡ true → may_follow key_cmp m (k, v) ≡ true
 entry_follows [] k v h = h
 entry_follows (x ∷ []) k v h = h
 entry_follows (x ∷ y ∷ r) k v h = entry_follows (y ∷ r) k v h
@@ -149,10 +149,10 @@ pub entries_before : (room : ℕ) (m : List (Scalar × Scalar)) (text : List ℕ
 unfolding entries_at
 entries_before zero m text left so h = let len : length text ≡ left = cc in at_start (MapStart m) text left len (last_key zero m so [] no_byte)
 entries_before (suc room) m text left so h =
-    fault_after (Before (MapStart m) text left) (scalar_at text) (λ k mid. cond (follows key_cmp m (k, k)) (on_read (entry_value_at mid) (λ w rest. behind_item (Map (m ++ (k, w) ∷ [])) (entries_at room (m ++ (k, w) ∷ [])) rest)) (Err (length text))) left h
+    fault_after (Before (MapStart m) text left) (scalar_at text) (λ k mid. cond (may_follow key_cmp m (k, k)) (on_read (entry_value_at mid) (λ w rest. behind_item (Map (m ++ (k, w) ∷ [])) (entries_at room (m ++ (k, w) ∷ [])) rest)) (Err (length text))) left h
     (λ fault. weaker ScalarStart (MapStart m) text left (last_key (suc room) m so) (scalar_before text left fault))
     (λ k mid key i. let fits = scalar_fits text mid k key in
-    chosen {A = Read Value} (Before (MapStart m) text left) (follows key_cmp m (k, k)) (on_read (entry_value_at mid) (λ w rest. behind_item (Map (m ++ (k, w) ∷ [])) (entries_at room (m ++ (k, w) ∷ [])) rest)) (Err (length text)) (Err left) i
+    chosen {A = Read Value} (Before (MapStart m) text left) (may_follow key_cmp m (k, k)) (on_read (entry_value_at mid) (λ w rest. behind_item (Map (m ++ (k, w) ∷ [])) (entries_at room (m ++ (k, w) ∷ [])) rest)) (Err (length text)) (Err left) i
     (λ f j. fault_after (Before (MapStart m) text left) (entry_value_at mid) (λ w rest. behind_item (Map (m ++ (k, w) ∷ [])) (entries_at room (m ++ (k, w) ∷ [])) rest) left j
     (λ fault. behind EntryValueStart (MapStart m) (scalar_text k) mid text left (scalar_takes text mid k key) (last_entry (suc room) m k so fits) (entry_value_before mid left fault))
     (λ v rest read l. let value = value_behind mid rest v read in

@@ -13,7 +13,7 @@ use Rattle.ql_base.proofs.Fronts.{front-append, front_next, front_passes, passes
 use Rattle.ql_base.proofs.Numerals.{digit_range, digits_model}
 use Rattle.ql_value.specs.declared.scalar.Scalar.{Scalar}
 use Rattle.ql_value.specs.declared.scalar.Scalar.TheVariants.{Int, Bool as Truth, Text}
-use Rattle.ql_value.specs.Spelling.{quoted, scalar_text}
+use Rattle.ql_value.specs.Spelling.{quoted_value, scalar_text}
 use Rattle.ql_value.specs.ValueGrammar.{IsScalar}
 use Rattle.ql_text_laws.specs.ValuePrefixes.{item_length, starts_number}
 use Rattle.ql_text_laws.proofs.Kept.{Stops}
@@ -106,12 +106,12 @@ quote_stops : is_text_byte 34 ≡ false
 unfolding is_text_byte
 quote_stops = refl
 
-text_taken : (t rest : List ℕ) → length t ≤ 64 → AllPass is_text_byte t → take (item_length (quoted t ++ rest)) (quoted t ++ rest) ≡ quoted t
+text_taken : (t rest : List ℕ) → length t ≤ 64 → AllPass is_text_byte t → take (item_length (quoted_value t ++ rest)) (quoted_value t ++ rest) ≡ quoted_value t
 text_taken t rest short plain =
     let tail : (t ++ 34 ∷ []) ++ rest ≡ t ++ 34 ∷ rest = append_assoc t (34 ∷ []) rest in
     let run : prefix_len is_text_byte ((t ++ 34 ∷ []) ++ rest) ≡ length t = ap (prefix_len is_text_byte) tail ∙ front-append is_text_byte t (34 ∷ rest) plain quote_stops in
-    let len : item_length (quoted t ++ rest) ≡ length (quoted t) = quote_length ((t ++ 34 ∷ []) ++ rest) ∙ rw run (omega (arith, short, length-append t (34 ∷ []))) in
-    ap (λ n. take n (quoted t ++ rest)) len ∙ take-append_seam (quoted t) rest
+    let len : item_length (quoted_value t ++ rest) ≡ length (quoted_value t) = quote_length ((t ++ 34 ∷ []) ++ rest) ∙ rw run (omega (arith, short, length-append t (34 ∷ []))) in
+    ap (λ n. take n (quoted_value t ++ rest)) len ∙ take-append_seam (quoted_value t) rest
 
 true_taken : (rest : List ℕ) → take (item_length (codes "true" ++ rest)) (codes "true" ++ rest) ≡ codes "true" ++ take (prefix_len is_lower rest) rest
 unfolding item_length is_lower
@@ -158,4 +158,4 @@ item_taken (Int (negsuc n)) rest more fits stop none =
     record { over = []; is = signed_taken (decimal (suc n)) rest (decimal_digits (suc n) small) stop ∙ sym (append-nil (45 ∷ decimal (suc n))); stops = none }
 item_taken (Truth true) rest more fits stop none = record { over = take (prefix_len is_lower rest) rest; is = true_taken rest; stops = tt }
 item_taken (Truth false) rest more fits stop none = record { over = take (prefix_len is_lower rest) rest; is = false_taken rest; stops = tt }
-item_taken (Text t) rest more fits stop none = record { over = []; is = text_taken t rest fits.short fits.plain ∙ sym (append-nil (quoted t)); stops = tt }
+item_taken (Text t) rest more fits stop none = record { over = []; is = text_taken t rest fits.short fits.plain ∙ sym (append-nil (quoted_value t)); stops = tt }

@@ -9,7 +9,7 @@ use Rattle.std.proofs.lemmas.List.Elements.{All-append, All-cons, All-nil}
 use Rattle.ql_base.specs.Bytes.{begins}
 use Rattle.ql_value.specs.declared.value.Value.{Value}
 use Rattle.ql_value.specs.Collections.{Ascends}
-use Rattle.ql_value.specs.Reading.{Read, after_spaces, behind_item, follows, is_byte, on_read}
+use Rattle.ql_value.specs.Reading.{Read, after_spaces, behind_item, may_follow, is_byte, on_read}
 use Rattle.ql_value.specs.ValueGrammar.{ReadsMore, spaces}
 use Rattle.ql_value.proofs.ScalarGrammar.{begins_with, chosen}
 use Rattle.ql_value.proofs.ValueLaws.{spaces_split}
@@ -36,11 +36,11 @@ less_from Equal h = cc
 less_from Greater h = cc
 
 module _ {X : Type 0} (cmp : X → X → Ordering) (total : IsTotalOrder cmp) where
-  below_next : (x : X) (xs : List X) (e : X) → Ascends cmp (x ∷ xs) → follows cmp (x ∷ xs) e ≡ true → cmp x e ≡ Less
+  below_next : (x : X) (xs : List X) (e : X) → Ascends cmp (x ∷ xs) → may_follow cmp (x ∷ xs) e ≡ true → cmp x e ≡ Less
   below_next x [] e asc f = less_from (cmp x e) f
   below_next x (y ∷ r) e asc f = total.trans x y e (asc.0 0 y (omega arith)) (below_next y r e asc.1 f)
 
-  ascends_on : (s : List X) (e : X) → Ascends cmp s → follows cmp s e ≡ true → Ascends cmp (s ++ e ∷ [])
+  ascends_on : (s : List X) (e : X) → Ascends cmp s → may_follow cmp s e ≡ true → Ascends cmp (s ++ e ∷ [])
   ascends_on [] e asc f = (All-nil (λ y. cmp e y ≡ Less), tt)
   ascends_on (x ∷ []) e asc f = (All-cons (λ y. cmp x y ≡ Less) e [] (less_from (cmp x e) f) (All-nil (λ y. cmp x y ≡ Less)), (All-nil (λ y. cmp e y ≡ Less), tt))
   ascends_on (x ∷ y ∷ r) e asc f = (
@@ -48,7 +48,7 @@ module _ {X : Type 0} (cmp : X → X → Ordering) (total : IsTotalOrder cmp) wh
     ascends_on (y ∷ r) e asc.1 f,
   )
 
-  pub grows : (IsItem : X → Type 0) (room : ℕ) (s : List X) (e : X) → SoFar cmp IsItem (suc room) s → follows cmp s e ≡ true → IsItem e → SoFar cmp IsItem room (s ++ e ∷ [])
+  pub grows : (IsItem : X → Type 0) (room : ℕ) (s : List X) (e : X) → SoFar cmp IsItem (suc room) s → may_follow cmp s e ≡ true → IsItem e → SoFar cmp IsItem room (s ++ e ∷ [])
   grows IsItem room s e so f fits = record {
     few = omega (arith, so.few, length-append s (e ∷ []));
     ascends = ascends_on s e so.ascends f;

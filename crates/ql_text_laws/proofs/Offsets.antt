@@ -1,7 +1,7 @@
 -- the laws of a fault by its offset
 use Rattle.std.proofs.Common.{◌≡◌, ◌≤◌, ◌<◌, ◌+◌, ◌-◌, ℕ, Err, List, length, take, drop, arith, sym, ap, ◌∙◌, length-drop, subst}
 use Rattle.ql_value.specs.declared.fault.ValueFault.TheVariants.{Unexpected}
-use Rattle.ql_value.specs.Reading.{IsRead, value_at}
+use Rattle.ql_value.specs.Reading.{IsReadValue, value_at}
 use Rattle.ql_text_laws.specs.ValuePrefixes.{BeginsAs, BeginsValue, EndsValues, IsFaultAt, IsValueButLast, MayStartItem}
 use Rattle.ql_text_laws.proofs.Collections.{begin, inside}
 use Rattle.ql_text_laws.proofs.NoValue.{no_byte, no_item}
@@ -13,7 +13,7 @@ has_offset text left h =
     (omega arith, h ∙ ap Err same)
 
 -- an offset of some bytes, as an offset of the text from `start` on
-pub reported : (bytes : List ℕ) (start place : ℕ) → start ≤ length bytes → IsRead value_at bytes start (Err (Unexpected place)) → (start ≤ place) × IsFaultAt (drop start bytes) (place - start)
+pub reported : (bytes : List ℕ) (start place : ℕ) → start ≤ length bytes → IsReadValue value_at bytes start (Err (Unexpected place)) → (start ≤ place) × IsFaultAt (drop start bytes) (place - start)
 reported bytes start place few h =
     let within = inside (drop start bytes) (length bytes - place) h.1 in
     let rest = length-drop start bytes in

@@ -9,7 +9,7 @@ use Rattle.ql_value.specs.declared.value.Value.{Value}
 use Rattle.ql_value.specs.declared.value.Value.TheVariants.{Set, Map}
 use Rattle.ql_value.specs.Order.{key_cmp, scalar_cmp}
 use Rattle.ql_value.specs.Spelling.{scalar_text}
-use Rattle.ql_value.specs.Reading.{Read, after_spaces, behind_item, elements_at, entries_at, entry_value_at, follows, is_byte, on_read, scalar_at}
+use Rattle.ql_value.specs.Reading.{Read, after_spaces, behind_item, elements_at, entries_at, entry_value_at, may_follow, is_byte, on_read, scalar_at}
 use Rattle.ql_value.specs.ValueGrammar.{IsEntry, IsScalar, ReadsEntry, ReadsScalar, spaces}
 use Rattle.ql_value.proofs.ScalarGrammar.{begins_with, chosen, scalar_first, scalar_takes}
 use Rattle.ql_value.proofs.ScalarOrder.{keys_total, scalars_total}
@@ -119,9 +119,9 @@ module _ (b : ℕ) (bs cs : List ℕ) where
   elements_stays (suc room) s pre so items h =
       let text : List ℕ = pre ++ post in
       let Goal : Type 0 = elements_at (suc room) s (pre ++ ext) ≡ Err (length ext) in
-      fault_after Goal (scalar_at text) (λ e rest. cond (follows scalar_cmp s e) (behind_item (Set (s ++ e ∷ [])) (elements_at room (s ++ e ∷ [])) rest) (Err (length text))) (length post) h
+      fault_after Goal (scalar_at text) (λ e rest. cond (may_follow scalar_cmp s e) (behind_item (Set (s ++ e ∷ [])) (elements_at room (s ++ e ∷ [])) rest) (Err (length text))) (length post) h
       (λ fault. let kept = scalar_stays b bs cs pre (λ start. items (last_element (suc room) s so (pre ++ codes "true") start)) fault in rw kept refl)
-      (λ e rest read i. chosen {A = Read Value} Goal (follows scalar_cmp s e) (behind_item (Set (s ++ e ∷ [])) (elements_at room (s ++ e ∷ [])) rest) (Err (length text)) (Err (length post)) i
+      (λ e rest read i. chosen {A = Read Value} Goal (may_follow scalar_cmp s e) (behind_item (Set (s ++ e ∷ [])) (elements_at room (s ++ e ∷ [])) rest) (Err (length text)) (Err (length post)) i
       (λ f j. let more : List ℕ → Read Value = elements_at room (s ++ e ∷ []) in
       let grown = grows scalar_cmp scalars_total IsScalar room s e so f (scalar_fits text rest e read) in
       let inside : (t : List ℕ) → more t ≡ Err (length post) → length post ≤ length t = λ t k. elements_inside room (s ++ e ∷ []) t (length post) grown k in
@@ -170,10 +170,10 @@ module _ (b : ℕ) (bs cs : List ℕ) where
   entries_stays (suc room) m pre so items h =
       let text : List ℕ = pre ++ post in
       let Goal : Type 0 = entries_at (suc room) m (pre ++ ext) ≡ Err (length ext) in
-      fault_after Goal (scalar_at text) (λ k mid. cond (follows key_cmp m (k, k)) (on_read (entry_value_at mid) (λ w rest. behind_item (Map (m ++ (k, w) ∷ [])) (entries_at room (m ++ (k, w) ∷ [])) rest)) (Err (length text))) (length post) h
+      fault_after Goal (scalar_at text) (λ k mid. cond (may_follow key_cmp m (k, k)) (on_read (entry_value_at mid) (λ w rest. behind_item (Map (m ++ (k, w) ∷ [])) (entries_at room (m ++ (k, w) ∷ [])) rest)) (Err (length text))) (length post) h
       (λ fault. let kept = scalar_stays b bs cs pre (λ start. items (last_key (suc room) m so (pre ++ codes "true") start)) fault in rw kept refl)
       (λ k mid key i. let k_fits = scalar_fits text mid k key in
-      chosen {A = Read Value} Goal (follows key_cmp m (k, k)) (on_read (entry_value_at mid) (λ w rest. behind_item (Map (m ++ (k, w) ∷ [])) (entries_at room (m ++ (k, w) ∷ [])) rest)) (Err (length text)) (Err (length post)) i
+      chosen {A = Read Value} Goal (may_follow key_cmp m (k, k)) (on_read (entry_value_at mid) (λ w rest. behind_item (Map (m ++ (k, w) ∷ [])) (entries_at room (m ++ (k, w) ∷ [])) rest)) (Err (length text)) (Err (length post)) i
       (λ f j. fault_after Goal (entry_value_at mid) (λ w rest. behind_item (Map (m ++ (k, w) ∷ [])) (entries_at room (m ++ (k, w) ∷ [])) rest) (length post) j
       (λ fault. let sp = split pre post (scalar_text k) mid (scalar_takes text mid k key) (entry_value_inside mid (length post) fault) in
       let whole : scalar_text k ++ (sp.mid ++ codes "true") ≡ pre ++ codes "true" = sym (append_assoc (scalar_text k) sp.mid (codes "true")) ∙ ap (λ t. t ++ codes "true") (sym sp.left) in

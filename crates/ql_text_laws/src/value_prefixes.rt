@@ -1,6 +1,6 @@
 ghost use Rattle.std.specs.Prelude.{◌≡◌, ◌≤◌, ◌<◌, ◌-◌, ◌+◌, List, Err, length, take, drop, ℕ};
 ghost use Rattle.ql_value.specs.declared.fault.ValueFault.TheVariants.{Unexpected};
-ghost use Rattle.ql_value.specs.Reading.{IsRead, value_at};
+ghost use Rattle.ql_value.specs.Reading.{IsReadValue, value_at};
 ghost use Rattle.ql_text_laws.specs.ValuePrefixes.{BeginsAs, BeginsValue, EndsValues, IsFaultAt, IsValueButLast, MayStartItem};
 
 /// The bytes before a fault are the beginning of a value's text, and no value's text begins with what is there too.
@@ -14,7 +14,7 @@ pub fn values_begin_before_faults()
     ensures inside { (text : List ℕ) (left : ℕ) → value_at text ≡ Err left
         → IsFaultAt text (length text - left) }
     ensures reported { (bytes : List ℕ) (start place : ℕ) → start ≤ length bytes
-        → IsRead value_at bytes start (Err (Unexpected place))
+        → IsReadValue value_at bytes start (Err (Unexpected place))
         → (start ≤ place) × IsFaultAt (drop start bytes) (place - start) }
     ensures begins { (text : List ℕ) (at : ℕ) → IsFaultAt text at
         → BeginsAs IsValueButLast (take at text) }

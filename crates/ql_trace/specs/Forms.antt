@@ -31,11 +31,11 @@ has_keys test d = option_map_or (λ ms. list_all (λ m. test m.0) (members_in ms
 -- ---- parts
 
 -- an ID, and a name or a number with it
-abbrev pub with_id : {X : Type 0} → (Data → Option X) → Data × Data → Option (List ℕ × X)
-with_id second pair = option_and_then (λ id. option_map (λ x. (id, x)) (second pair.1)) (as_id pair.0)
+abbrev pub id_and : {X : Type 0} → (Data → Option X) → Data × Data → Option (List ℕ × X)
+id_and second pair = option_and_then (λ id. option_map (λ x. (id, x)) (second pair.1)) (as_id pair.0)
 
 abbrev pub as_with_id : {X : Type 0} → (Data → Option X) → Data → Option (List ℕ × X)
-as_with_id second d = option_and_then (with_id second) (as_pair d)
+as_with_id second d = option_and_then (id_and second) (as_pair d)
 
 -- a member that may be absent
 abbrev pub if_there : {X : Type 0} → (Data → Option X) → Option Data → Option (Option X)
@@ -115,8 +115,8 @@ abbrev pub as_payload : Data → Option (Option (List Data))
 as_payload null = Some None
 as_payload d = option_map Some (as_items d)
 
-abbrev pub values_in : Data → Option ValueTexts
-values_in d =
+abbrev pub value_texts_in : Data → Option ValueTexts
+value_texts_in d =
     option_and_then (λ args. option_map (λ payload. record { args = args; answer = get (codes "answer") d; payload = payload })
     (if_there as_payload (get (codes "payload") d))) (args_in (get (codes "args") d))
 
@@ -130,7 +130,7 @@ sight_in d =
 abbrev pub form_with : Data → Option FormText
 form_with d =
     option_and_then (λ heading. option_and_then (λ values. option_map (λ sight. record { heading = heading; values = values; sight = sight })
-    (sight_in d)) (values_in d)) (heading_in d)
+    (sight_in d)) (value_texts_in d)) (heading_in d)
 
 -- what a line says at its keys, if it is an object with these keys alone and each is of its form
 abbrev pub as_form : Data → Option FormText

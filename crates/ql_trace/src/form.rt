@@ -24,7 +24,7 @@ ghost use Rattle.ql_trace.specs.Forms.{
   value_keys,
   sight_in,
   there,
-  values_in,
+  value_texts_in,
 };
 ghost use Rattle.ql_trace.specs.FormTexts.{
   count_text,
@@ -236,7 +236,7 @@ fn part_of(json: &Json) -> Option<Part<'_>>
 }
 
 fn values_of(json: &Json) -> Option<Values<'_>>
-    ensures { option_map value_texts result ≡ values_in (view json.now) }
+    ensures { option_map value_texts result ≡ value_texts_in (view json.now) }
 {
     let args = args(json.get("args"))?;
     let payload = payload(json.get("payload"))?;

@@ -15,7 +15,7 @@ use Rattle.ql_typing.specs.declared.fault.TypeFault.TheVariants.{Unknown, TxnClo
 use Rattle.ql_typing.specs.Faults.{each, names_met, repeats, unless}
 use Rattle.ql_typing.specs.ContractFaults.{choice_faults, contract_faults, extra_var, is_closure, op_faults, point_faults, prop_faults, rel_faults, var_names}
 use Rattle.ql_typing.specs.Resolved.{choice_of, number_in, resolved_in, statement_in, term_of, with_numbers}
-use Rattle.ql_typing.specs.WellFormed.{AreBelow, AreChoicesOf, AreTermsOf, HasNoClosure, HasNoTxn, IsBodyOf, IsOpContract, IsPlain, IsTermOf, IsTxnContract}
+use Rattle.ql_typing.specs.WellFormed.{AreBelow, AreChoicesOf, AreTermsOf, HasNoClosure, HasNoTxn, IsBodyOf, IsOpContract, IsWithoutClosures, IsTermOf, IsTxnContract}
 use Rattle.ql_typing.proofs.Parts.{distinct_met, few_each, left_none, right_none, reported_false, reported_true}
 
 -- a known name has a number below the count of names
@@ -66,7 +66,7 @@ no_txn_in vars (InTxn at members others) h =
     absurd no
 
 -- a transaction's contract has no closures
-plain_in : (r : Relation) → rel_faults true r ≡ [] → IsPlain r
+plain_in : (r : Relation) → rel_faults true r ≡ [] → IsWithoutClosures r
 unfolding rel_faults
 plain_in (Basic name at) h = reported_false (is_closure name) (TxnClosure at) h
 plain_in (Union a b) h = (plain_in a (left_none _ _ h), plain_in b (right_none (rel_faults true a) _ h))

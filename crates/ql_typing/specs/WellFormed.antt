@@ -48,14 +48,14 @@ HasNoTxn (IfThen p q) = HasNoTxn p × HasNoTxn q
 HasNoTxn (InOneTxn members others) = ⊥
 
 -- none of the named relations is a closure
-abbrev pub IsPlain : Relation → Type 0
-IsPlain (Basic name at) = is_closure name ≡ false
-IsPlain (Union r s) = IsPlain r × IsPlain s
-IsPlain (Intersection r s) = IsPlain r × IsPlain s
+abbrev pub IsWithoutClosures : Relation → Type 0
+IsWithoutClosures (Basic name at) = is_closure name ≡ false
+IsWithoutClosures (Union r s) = IsWithoutClosures r × IsWithoutClosures s
+IsWithoutClosures (Intersection r s) = IsWithoutClosures r × IsWithoutClosures s
 
 abbrev pub HasNoClosure : Statement → Type 0
 HasNoClosure Always = Unit {0}
-HasNoClosure (Related r t u) = IsPlain r
+HasNoClosure (Related r t u) = IsWithoutClosures r
 HasNoClosure (BothOf p q) = HasNoClosure p × HasNoClosure q
 HasNoClosure (formula.OneOf p q) = HasNoClosure p × HasNoClosure q
 HasNoClosure (IfThen p q) = HasNoClosure p × HasNoClosure q

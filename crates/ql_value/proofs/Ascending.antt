@@ -13,7 +13,7 @@ use Rattle.std.proofs.Math.Seq.{drop-cons}
 use Rattle.std.specs.List.{insert}
 use Rattle.std.proofs.lemmas.Bool.Decides.{nat_tests}
 use Rattle.ql_value.specs.Collections.{Ascends, below, items_above, others, with_item}
-use Rattle.ql_value.specs.Reading.{follows}
+use Rattle.ql_value.specs.Reading.{may_follow}
 use Rattle.ql_value.specs.Places.{place, Found, Missing, IsPlace}
 
 module _ {X : Type 0} (R : X → X → Ordering) (total : IsTotalOrder R) where
@@ -175,12 +175,12 @@ module _ {X : Type 0} (R : X → X → Ordering) (total : IsTotalOrder R) where
   inserts e xs n p room = rw p.0 (sym (goes_in e xs p.1 room))
 
   -- an item above the last is above all
-  below_all : (x : X) (xs : List X) (e : X) → Ascends R (x ∷ xs) → follows R (x ∷ xs) e ≡ true → All (λ y. R y e ≡ Less) (x ∷ xs)
+  below_all : (x : X) (xs : List X) (e : X) → Ascends R (x ∷ xs) → may_follow R (x ∷ xs) e ≡ true → All (λ y. R y e ≡ Less) (x ∷ xs)
   below_all x [] e asc f = All-cons (λ y. R y e ≡ Less) x [] (less_from _ f) (All-nil (λ y. R y e ≡ Less))
   below_all x (y ∷ r) e asc f =
       let rest = below_all y r e asc.1 f in
       All-cons (λ z. R z e ≡ Less) x (y ∷ r) (total.trans x y e (asc.0 0 y (omega arith)) (rest 0 y (omega arith))) rest
 
-  pub pushed : (s : List X) (e : X) → Ascends R s → follows R s e ≡ true → Ascends R (s ++ e ∷ [])
+  pub pushed : (s : List X) (e : X) → Ascends R s → may_follow R s e ≡ true → Ascends R (s ++ e ∷ [])
   pushed [] e asc f = (All-nil (λ y. R e y ≡ Less), tt)
   pushed (x ∷ xs) e asc f = ascends_joined e (x ∷ xs) [] asc tt (below_all x xs e asc f) (All-nil (λ y. R e y ≡ Less))

@@ -13,19 +13,19 @@ use Rattle.ql_value.specs.declared.fault.ValueFault.{ValueFault}
 use Rattle.ql_value.specs.declared.fault.ValueFault.TheVariants.{Unexpected, NoMemory}
 use Rattle.ql_value.specs.Order.{scalar_cmp, key_cmp}
 use Rattle.ql_value.specs.Contents.{value_of_scalar}
-use Rattle.ql_value.specs.Reading.{Read, IsRead, IsWordRead, is_byte, scalar_at, word_at, standing_for, quoted_at, negative_at, plain_at, after_spaces, elements_at, entries_at, entry_value_at, collection_at, value_at, follows}
+use Rattle.ql_value.specs.Reading.{Read, IsReadValue, IsWordRead, is_byte, scalar_at, word_at, standing_for, quoted_at, negative_at, plain_at, after_spaces, elements_at, entries_at, entry_value_at, collection_at, value_at, may_follow}
 
 -- a reading from one place that is one from another
-pub moved : {X : Type 0} (f g : List ℕ → Read X) (bytes : List ℕ) (at sp : ℕ) (r : Result (X × ℕ) ValueFault) → f (drop at bytes) ≡ g (drop sp bytes) → IsRead g bytes sp r → IsRead f bytes at r
+pub moved : {X : Type 0} (f g : List ℕ → Read X) (bytes : List ℕ) (at sp : ℕ) (r : Result (X × ℕ) ValueFault) → f (drop at bytes) ≡ g (drop sp bytes) → IsReadValue g bytes sp r → IsReadValue f bytes at r
 moved f g bytes at sp (Ok x) e h = (h.0, e ∙ h.1)
 moved f g bytes at sp (Err NoMemory) e h = tt
 moved f g bytes at sp (Err (Unexpected p)) e h = (h.0, e ∙ h.1)
 
 -- a word that was read stands for its value
-pub word_ok : {X : Type 0} (x : X) (w bytes : List ℕ) (at to : ℕ) → IsWordRead w bytes at (Ok to) → IsRead (word_at x w) bytes at (Ok (x, to))
+pub word_ok : {X : Type 0} (x : X) (w bytes : List ℕ) (at to : ℕ) → IsWordRead w bytes at (Ok to) → IsReadValue (word_at x w) bytes at (Ok (x, to))
 word_ok x w bytes at to h = (h.0, ap (standing_for x) h.1)
 
-pub word_err : {X : Type 0} (x : X) (w bytes : List ℕ) (at : ℕ) (fault : ValueFault) → IsWordRead w bytes at (Err fault) → IsRead (word_at x w) bytes at (Err fault)
+pub word_err : {X : Type 0} (x : X) (w bytes : List ℕ) (at : ℕ) (fault : ValueFault) → IsWordRead w bytes at (Err fault) → IsReadValue (word_at x w) bytes at (Err fault)
 word_err x w bytes at NoMemory h = tt
 word_err x w bytes at (Unexpected p) h = (h.0, ap (standing_for x) h.1)
 
@@ -63,19 +63,19 @@ value_behind bytes at sp colon e = rw colon (ap scalar_at (spaces bytes at sp e)
 
 -- one element of a set
 module _ (bytes : List ℕ) (room at behind : ℕ) (s : List Scalar) (e : Scalar) (read : scalar_at (drop at bytes) ≡ Ok (e, drop behind bytes)) where
-  pub element_low : follows scalar_cmp s e ≡ false → elements_at (suc room) s (drop at bytes) ≡ Err (length bytes - at)
+  pub element_low : may_follow scalar_cmp s e ≡ false → elements_at (suc room) s (drop at bytes) ≡ Err (length bytes - at)
   unfolding elements_at
   element_low f = rw (read, f) (ap Err (length-drop at bytes))
 
-  pub element_last : follows scalar_cmp s e ≡ true → begins (is_byte 125) (drop behind bytes) ≡ true → elements_at (suc room) s (drop at bytes) ≡ Ok (Set (s ++ e ∷ []), drop (behind + 1) bytes)
+  pub element_last : may_follow scalar_cmp s e ≡ true → begins (is_byte 125) (drop behind bytes) ≡ true → elements_at (suc room) s (drop at bytes) ≡ Ok (Set (s ++ e ∷ []), drop (behind + 1) bytes)
   unfolding elements_at
   element_last f c = rw (read, f, c, drop-drop) refl
 
-  pub element_stop : follows scalar_cmp s e ≡ true → begins (is_byte 125) (drop behind bytes) ≡ false → begins (is_byte 44) (drop behind bytes) ≡ false → elements_at (suc room) s (drop at bytes) ≡ Err (length bytes - behind)
+  pub element_stop : may_follow scalar_cmp s e ≡ true → begins (is_byte 125) (drop behind bytes) ≡ false → begins (is_byte 44) (drop behind bytes) ≡ false → elements_at (suc room) s (drop at bytes) ≡ Err (length bytes - behind)
   unfolding elements_at
   element_stop f c d = rw (read, f, c, d) (ap Err (length-drop behind bytes))
 
-  pub element_more : (sp : ℕ) → follows scalar_cmp s e ≡ true → begins (is_byte 125) (drop behind bytes) ≡ false → begins (is_byte 44) (drop behind bytes) ≡ true → sp ≡ behind + 1 + prefix_len (is_byte 32) (drop (behind + 1) bytes) → elements_at (suc room) s (drop at bytes) ≡ elements_at room (s ++ e ∷ []) (drop sp bytes)
+  pub element_more : (sp : ℕ) → may_follow scalar_cmp s e ≡ true → begins (is_byte 125) (drop behind bytes) ≡ false → begins (is_byte 44) (drop behind bytes) ≡ true → sp ≡ behind + 1 + prefix_len (is_byte 32) (drop (behind + 1) bytes) → elements_at (suc room) s (drop at bytes) ≡ elements_at room (s ++ e ∷ []) (drop sp bytes)
   unfolding elements_at
   element_more sp f c d sp_is = rw (read, f, c, d) (ap (elements_at room (s ++ e ∷ [])) (spaces bytes behind sp sp_is))
 
@@ -89,15 +89,15 @@ no_more_elements s bytes at = ap Err (length-drop at bytes)
 
 -- one entry of a map
 module _ (bytes : List ℕ) (room at behind_key : ℕ) (m : List (Scalar × Scalar)) (k : Scalar) (read : scalar_at (drop at bytes) ≡ Ok (k, drop behind_key bytes)) where
-  pub key_low : follows key_cmp m (k, k) ≡ false → entries_at (suc room) m (drop at bytes) ≡ Err (length bytes - at)
+  pub key_low : may_follow key_cmp m (k, k) ≡ false → entries_at (suc room) m (drop at bytes) ≡ Err (length bytes - at)
   unfolding entries_at
   key_low f = rw (read, f) (ap Err (length-drop at bytes))
 
-  pub entry_fault : (left : ℕ) → follows key_cmp m (k, k) ≡ true → entry_value_at (drop behind_key bytes) ≡ Err left → entries_at (suc room) m (drop at bytes) ≡ Err left
+  pub entry_fault : (left : ℕ) → may_follow key_cmp m (k, k) ≡ true → entry_value_at (drop behind_key bytes) ≡ Err left → entries_at (suc room) m (drop at bytes) ≡ Err left
   unfolding entries_at
   entry_fault left f value = rw (read, f, value) refl
 
-  module _ (behind : ℕ) (v : Scalar) (f : follows key_cmp m (k, k) ≡ true) (value : entry_value_at (drop behind_key bytes) ≡ Ok (v, drop behind bytes)) where
+  module _ (behind : ℕ) (v : Scalar) (f : may_follow key_cmp m (k, k) ≡ true) (value : entry_value_at (drop behind_key bytes) ≡ Ok (v, drop behind bytes)) where
     pub entry_last : begins (is_byte 125) (drop behind bytes) ≡ true → entries_at (suc room) m (drop at bytes) ≡ Ok (Map (m ++ (k, v) ∷ []), drop (behind + 1) bytes)
     unfolding entries_at
     entry_last c = rw (read, f, value, c, drop-drop) refl
@@ -119,7 +119,7 @@ unfolding entries_at
 no_more_entries m bytes at = ap Err (length-drop at bytes)
 
 -- the last of a list decides what may follow
-pub follows_last : {X : Type 0} (cmp : X → X → Ordering) (s : List X) (x e : X) → Some x ≡ slice_get s (length s - 1) → follows cmp s e ≡ is_lt (cmp x e)
+pub follows_last : {X : Type 0} (cmp : X → X → Ordering) (s : List X) (x e : X) → Some x ≡ slice_get s (length s - 1) → may_follow cmp s e ≡ is_lt (cmp x e)
 follows_last cmp [] x e h = cc
 follows_last cmp (y ∷ []) x e h = let same : x ≡ y = cc in rw same refl
 follows_last cmp (y ∷ z ∷ r) x e h =
@@ -138,21 +138,21 @@ module _ (bytes : List ℕ) (first at room k : ℕ) (s : List Scalar) (lt : k < 
   unroll : room - k ≡ suc (room - (k + 1))
   unroll = omega arith
 
-  pub set_fault : (fault : ValueFault) → IsRead scalar_at bytes at (Err fault) → IsRead (elements_at room []) bytes first (Err fault)
+  pub set_fault : (fault : ValueFault) → IsReadValue scalar_at bytes at (Err fault) → IsReadValue (elements_at room []) bytes first (Err fault)
   set_fault NoMemory h = tt
   set_fault (Unexpected p) h = (h.0, same ∙ rw unroll (element_fault (room - (k + 1)) (length bytes - p) s (drop at bytes) h.1))
 
   module _ (behind : ℕ) (e : Scalar) (read : scalar_at (drop at bytes) ≡ Ok (e, drop behind bytes)) where
-    pub set_low : follows scalar_cmp s e ≡ false → elements_at room [] (drop first bytes) ≡ Err (length bytes - at)
+    pub set_low : may_follow scalar_cmp s e ≡ false → elements_at room [] (drop first bytes) ≡ Err (length bytes - at)
     set_low f = same ∙ rw unroll (element_low bytes (room - (k + 1)) at behind s e read f)
 
-    pub set_last : follows scalar_cmp s e ≡ true → begins (is_byte 125) (drop behind bytes) ≡ true → elements_at room [] (drop first bytes) ≡ Ok (Set (s ++ e ∷ []), drop (behind + 1) bytes)
+    pub set_last : may_follow scalar_cmp s e ≡ true → begins (is_byte 125) (drop behind bytes) ≡ true → elements_at room [] (drop first bytes) ≡ Ok (Set (s ++ e ∷ []), drop (behind + 1) bytes)
     set_last f c = same ∙ rw unroll (element_last bytes (room - (k + 1)) at behind s e read f c)
 
-    pub set_stop : follows scalar_cmp s e ≡ true → begins (is_byte 125) (drop behind bytes) ≡ false → begins (is_byte 44) (drop behind bytes) ≡ false → elements_at room [] (drop first bytes) ≡ Err (length bytes - behind)
+    pub set_stop : may_follow scalar_cmp s e ≡ true → begins (is_byte 125) (drop behind bytes) ≡ false → begins (is_byte 44) (drop behind bytes) ≡ false → elements_at room [] (drop first bytes) ≡ Err (length bytes - behind)
     set_stop f c d = same ∙ rw unroll (element_stop bytes (room - (k + 1)) at behind s e read f c d)
 
-    pub set_more : (sp : ℕ) → follows scalar_cmp s e ≡ true → begins (is_byte 125) (drop behind bytes) ≡ false → begins (is_byte 44) (drop behind bytes) ≡ true → sp ≡ behind + 1 + prefix_len (is_byte 32) (drop (behind + 1) bytes) → elements_at room [] (drop first bytes) ≡ elements_at (room - (k + 1)) (s ++ e ∷ []) (drop sp bytes)
+    pub set_more : (sp : ℕ) → may_follow scalar_cmp s e ≡ true → begins (is_byte 125) (drop behind bytes) ≡ false → begins (is_byte 44) (drop behind bytes) ≡ true → sp ≡ behind + 1 + prefix_len (is_byte 32) (drop (behind + 1) bytes) → elements_at room [] (drop first bytes) ≡ elements_at (room - (k + 1)) (s ++ e ∷ []) (drop sp bytes)
     set_more sp f c d sp_is = same ∙ rw unroll (element_more bytes (room - (k + 1)) at behind s e read sp f c d sp_is)
 
 pub set_full : (bytes : List ℕ) (first at room k : ℕ) (s : List Scalar) → room ≤ k → elements_at room [] (drop first bytes) ≡ elements_at (room - k) s (drop at bytes) → elements_at room [] (drop first bytes) ≡ Err (length bytes - at)
@@ -163,19 +163,19 @@ module _ (bytes : List ℕ) (first at room k : ℕ) (m : List (Scalar × Scalar)
   unroll_map : room - k ≡ suc (room - (k + 1))
   unroll_map = omega arith
 
-  pub map_key_fault : (fault : ValueFault) → IsRead scalar_at bytes at (Err fault) → IsRead (entries_at room []) bytes first (Err fault)
+  pub map_key_fault : (fault : ValueFault) → IsReadValue scalar_at bytes at (Err fault) → IsReadValue (entries_at room []) bytes first (Err fault)
   map_key_fault NoMemory h = tt
   map_key_fault (Unexpected p) h = (h.0, same ∙ rw unroll_map (key_fault (room - (k + 1)) (length bytes - p) m (drop at bytes) h.1))
 
   module _ (behind_key : ℕ) (key : Scalar) (read : scalar_at (drop at bytes) ≡ Ok (key, drop behind_key bytes)) where
-    pub map_low : follows key_cmp m (key, key) ≡ false → entries_at room [] (drop first bytes) ≡ Err (length bytes - at)
+    pub map_low : may_follow key_cmp m (key, key) ≡ false → entries_at room [] (drop first bytes) ≡ Err (length bytes - at)
     map_low f = same ∙ rw unroll_map (key_low bytes (room - (k + 1)) at behind_key m key read f)
 
-    pub map_value_fault : follows key_cmp m (key, key) ≡ true → (fault : ValueFault) → IsRead entry_value_at bytes behind_key (Err fault) → IsRead (entries_at room []) bytes first (Err fault)
+    pub map_value_fault : may_follow key_cmp m (key, key) ≡ true → (fault : ValueFault) → IsReadValue entry_value_at bytes behind_key (Err fault) → IsReadValue (entries_at room []) bytes first (Err fault)
     map_value_fault f NoMemory h = tt
     map_value_fault f (Unexpected p) h = (h.0, same ∙ rw unroll_map (entry_fault bytes (room - (k + 1)) at behind_key m key read (length bytes - p) f h.1))
 
-    module _ (behind : ℕ) (v : Scalar) (f : follows key_cmp m (key, key) ≡ true) (value : entry_value_at (drop behind_key bytes) ≡ Ok (v, drop behind bytes)) where
+    module _ (behind : ℕ) (v : Scalar) (f : may_follow key_cmp m (key, key) ≡ true) (value : entry_value_at (drop behind_key bytes) ≡ Ok (v, drop behind bytes)) where
       pub map_last : begins (is_byte 125) (drop behind bytes) ≡ true → entries_at room [] (drop first bytes) ≡ Ok (Map (m ++ (key, v) ∷ []), drop (behind + 1) bytes)
       map_last c = same ∙ rw unroll_map (entry_last bytes (room - (k + 1)) at behind_key m key read behind v f value c)
 
@@ -210,7 +210,7 @@ module _ (room : ℕ) (t : List ℕ) where
   unfolding collection_at
   is_a_set k rest h i read colon = rw (h, i, read, colon) refl
 
-pub collection_fault : (room : ℕ) (bytes : List ℕ) (at : ℕ) (fault : ValueFault) → begins (is_byte 125) (drop at bytes) ≡ false → begins (is_byte 58) (drop at bytes) ≡ false → IsRead scalar_at bytes at (Err fault) → IsRead (collection_at room) bytes at (Err fault)
+pub collection_fault : (room : ℕ) (bytes : List ℕ) (at : ℕ) (fault : ValueFault) → begins (is_byte 125) (drop at bytes) ≡ false → begins (is_byte 58) (drop at bytes) ≡ false → IsReadValue scalar_at bytes at (Err fault) → IsReadValue (collection_at room) bytes at (Err fault)
 collection_fault room bytes at NoMemory h i f = tt
 collection_fault room bytes at (Unexpected p) h i f = (f.0, first_fault room (drop at bytes) (length bytes - p) h i f.1)
 
@@ -232,12 +232,12 @@ module _ (t : List ℕ) where
   unfolding value_at
   scalar_fault left h i read = rw (h, i, read) refl
 
-pub value_fault : (bytes : List ℕ) (at : ℕ) (fault : ValueFault) → begins (is_byte 117) (drop at bytes) ≡ false → begins (is_byte 123) (drop at bytes) ≡ false → IsRead scalar_at bytes at (Err fault) → IsRead value_at bytes at (Err fault)
+pub value_fault : (bytes : List ℕ) (at : ℕ) (fault : ValueFault) → begins (is_byte 117) (drop at bytes) ≡ false → begins (is_byte 123) (drop at bytes) ≡ false → IsReadValue scalar_at bytes at (Err fault) → IsReadValue value_at bytes at (Err fault)
 value_fault bytes at NoMemory h i f = tt
 value_fault bytes at (Unexpected p) h i f = (f.0, scalar_fault (drop at bytes) (length bytes - p) h i f.1)
 
 -- a map's order looks at keys alone
-pub follows_key : (m : List (Scalar × Scalar)) (k v : Scalar) → follows key_cmp m (k, k) ≡ true → follows key_cmp m (k, v) ≡ true
+pub follows_key : (m : List (Scalar × Scalar)) (k v : Scalar) → may_follow key_cmp m (k, k) ≡ true → may_follow key_cmp m (k, v) ≡ true
 follows_key [] k v h = refl
 follows_key (x ∷ []) k v h = h
 follows_key (x ∷ y ∷ r) k v h = follows_key (y ∷ r) k v h

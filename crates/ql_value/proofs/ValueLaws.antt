@@ -16,7 +16,7 @@ use Rattle.ql_value.specs.Order.{scalar_cmp, key_cmp}
 use Rattle.ql_value.specs.Collections.{Ascends}
 use Rattle.ql_value.specs.Spelling.{scalar_text, entry_text, followed, value_text}
 use Rattle.ql_value.specs.Contents.{value_of_scalar}
-use Rattle.ql_value.specs.Reading.{Read, is_byte, on_read, follows, behind_item, after_spaces, scalar_at, word_at, word_end, elements_at, entries_at, entry_value_at, collection_at, value_at}
+use Rattle.ql_value.specs.Reading.{Read, is_byte, on_read, may_follow, behind_item, after_spaces, scalar_at, word_at, word_end, elements_at, entries_at, entry_value_at, collection_at, value_at}
 use Rattle.ql_value.specs.ValueGrammar.{spaces, IsScalar, IsEntry, IsValue, ReadsScalar, ReadsEntry, ReadsMore, ReadsBraced, ReadsSet, ReadsMap, ReadsValue}
 use Rattle.ql_value.proofs.ScalarGrammar.{chosen, are_parts, begins_with, word_at_takes, scalar_takes, scalar_again, scalar_first}
 
@@ -38,12 +38,12 @@ after_again n text stop =
     ap (λ k. drop k (spaces n ++ text)) (front-append (is_byte 32) (spaces n) text (all_spaces n) stop) ∙ drop-append_seam (spaces n) text
 
 -- an item of an ascending list may follow those before it
-follows_of : {X : Type 0} (cmp : X → X → Ordering) (s : List X) (e : X) (es : List X) → Ascends cmp (s ++ e ∷ es) → follows cmp s e ≡ true
+follows_of : {X : Type 0} (cmp : X → X → Ordering) (s : List X) (e : X) (es : List X) → Ascends cmp (s ++ e ∷ es) → may_follow cmp s e ≡ true
 follows_of cmp [] e es asc = refl
 follows_of cmp (x ∷ []) e es asc = let less : cmp x e ≡ Less = asc.0 0 e (omega arith) in rw less refl
 follows_of cmp (x ∷ y ∷ r) e es asc = follows_of cmp (y ∷ r) e es asc.1
 
-key_follows_of : (m : List (Scalar × Scalar)) (k v : Scalar) → follows key_cmp m (k, v) ≡ true → follows key_cmp m (k, k) ≡ true
+key_follows_of : (m : List (Scalar × Scalar)) (k v : Scalar) → may_follow key_cmp m (k, v) ≡ true → may_follow key_cmp m (k, k) ≡ true
 key_follows_of [] k v h = refl
 key_follows_of (x ∷ []) k v h = h
 key_follows_of (x ∷ y ∷ r) k v h = key_follows_of (y ∷ r) k v h
@@ -82,12 +82,12 @@ abbrev TakenMap : List (Scalar × Scalar) → List ℕ → Value → List ℕ �
 TakenMap m text v rest = TakenItems (λ e a b. ReadsEntry e a b) Map m text v rest
 
 elements_by : (room : ℕ) (s : List Scalar) (text rest : List ℕ) (v : Value) (r : Read Scalar) → scalar_at text ≡ r
-    → on_read r (λ e behind. cond (follows scalar_cmp s e) (behind_item (Set (s ++ e ∷ [])) (elements_at room (s ++ e ∷ [])) behind) (Err (length text))) ≡ Ok (v, rest)
+    → on_read r (λ e behind. cond (may_follow scalar_cmp s e) (behind_item (Set (s ++ e ∷ [])) (elements_at room (s ++ e ∷ [])) behind) (Err (length text))) ≡ Ok (v, rest)
     → ((s' : List Scalar) (t' : List ℕ) → elements_at room s' t' ≡ Ok (v, rest) → TakenSet s' t' v rest)
     → TakenSet s text v rest
 elements_by room s text rest v (Err left) read h ih = cc
 elements_by room s text rest v (Ok p) read h ih =
-    chosen {A = Read Value} (TakenSet s text v rest) (follows scalar_cmp s p.0) (behind_item (Set (s ++ p.0 ∷ [])) (elements_at room (s ++ p.0 ∷ [])) p.1) (Err (length text)) (Ok (v, rest)) h
+    chosen {A = Read Value} (TakenSet s text v rest) (may_follow scalar_cmp s p.0) (behind_item (Set (s ++ p.0 ∷ [])) (elements_at room (s ++ p.0 ∷ [])) p.1) (Err (length text)) (Ok (v, rest)) h
     (λ f i. chosen {A = Read Value} (TakenSet s text v rest) (begins (is_byte 125) p.1) (Ok (Set (s ++ p.0 ∷ []), drop 1 p.1)) _ (Ok (v, rest)) i
     (λ c j. let q = are_parts (Set (s ++ p.0 ∷ [])) v (drop 1 p.1) rest j in record {
       item = p.0;
@@ -137,12 +137,12 @@ entry_by room m text mid rest v k (Ok p) key value h ih =
     (λ d l. cc))
 
 entries_by : (room : ℕ) (m : List (Scalar × Scalar)) (text rest : List ℕ) (v : Value) (r : Read Scalar) → scalar_at text ≡ r
-    → on_read r (λ k mid. cond (follows key_cmp m (k, k)) (on_read (entry_value_at mid) (λ w behind. behind_item (Map (m ++ (k, w) ∷ [])) (entries_at room (m ++ (k, w) ∷ [])) behind)) (Err (length text))) ≡ Ok (v, rest)
+    → on_read r (λ k mid. cond (may_follow key_cmp m (k, k)) (on_read (entry_value_at mid) (λ w behind. behind_item (Map (m ++ (k, w) ∷ [])) (entries_at room (m ++ (k, w) ∷ [])) behind)) (Err (length text))) ≡ Ok (v, rest)
     → ((m' : List (Scalar × Scalar)) (t' : List ℕ) → entries_at room m' t' ≡ Ok (v, rest) → TakenMap m' t' v rest)
     → TakenMap m text v rest
 entries_by room m text rest v (Err left) read h ih = cc
 entries_by room m text rest v (Ok p) read h ih =
-    chosen {A = Read Value} (TakenMap m text v rest) (follows key_cmp m (p.0, p.0)) (on_read (entry_value_at p.1) (λ w behind. behind_item (Map (m ++ (p.0, w) ∷ [])) (entries_at room (m ++ (p.0, w) ∷ [])) behind)) (Err (length text)) (Ok (v, rest)) h
+    chosen {A = Read Value} (TakenMap m text v rest) (may_follow key_cmp m (p.0, p.0)) (on_read (entry_value_at p.1) (λ w behind. behind_item (Map (m ++ (p.0, w) ∷ [])) (entries_at room (m ++ (p.0, w) ∷ [])) behind)) (Err (length text)) (Ok (v, rest)) h
     (λ f i. entry_by room m text p.1 rest v p.0 (entry_value_at p.1) read refl i ih)
     (λ f i. cc)
 

@@ -19,7 +19,7 @@ use Rattle.ql_value.specs.declared.value.Value.TheVariants.{Unit as Nothing, Set
 use Rattle.ql_value.specs.Collections.{Ascends}
 use Rattle.ql_value.specs.Contents.{value_of_scalar}
 use Rattle.ql_value.specs.Order.{key_cmp, scalar_cmp}
-use Rattle.ql_value.specs.Reading.{Read, after_spaces, behind_item, collection_at, elements_at, entries_at, entry_value_at, follows, is_byte, negative_at, number_up_to, on_read, plain_at, quoted_at, scalar_at, value_at, word_at}
+use Rattle.ql_value.specs.Reading.{Read, after_spaces, behind_item, collection_at, elements_at, entries_at, entry_value_at, may_follow, is_byte, negative_at, number_up_to, on_read, plain_at, quoted_at, scalar_at, value_at, word_at}
 use Rattle.ql_value.specs.ValueGrammar.{IsEntry, IsScalar, IsValue}
 use Rattle.ql_value.proofs.ScalarGrammar.{are_parts, chosen, word_at_takes}
 use Rattle.ql_value.proofs.ScalarOrder.{keys_total, scalars_total}
@@ -107,11 +107,11 @@ less_from Equal h = cc
 less_from Greater h = cc
 
 module _ {X : Type 0} (cmp : X → X → Ordering) (total : IsTotalOrder cmp) where
-  below_next : (x : X) (xs : List X) (e : X) → Ascends cmp (x ∷ xs) → follows cmp (x ∷ xs) e ≡ true → cmp x e ≡ Less
+  below_next : (x : X) (xs : List X) (e : X) → Ascends cmp (x ∷ xs) → may_follow cmp (x ∷ xs) e ≡ true → cmp x e ≡ Less
   below_next x [] e asc f = less_from (cmp x e) f
   below_next x (y ∷ r) e asc f = total.trans x y e (asc.0 0 y (omega arith)) (below_next y r e asc.1 f)
 
-  ascends_on : (s : List X) (e : X) → Ascends cmp s → follows cmp s e ≡ true → Ascends cmp (s ++ e ∷ [])
+  ascends_on : (s : List X) (e : X) → Ascends cmp s → may_follow cmp s e ≡ true → Ascends cmp (s ++ e ∷ [])
   ascends_on [] e asc f = (All-nil (λ y. cmp e y ≡ Less), tt)
   ascends_on (x ∷ []) e asc f = (All-cons (λ y. cmp x y ≡ Less) e [] (less_from (cmp x e) f) (All-nil (λ y. cmp x y ≡ Less)), (All-nil (λ y. cmp e y ≡ Less), tt))
   ascends_on (x ∷ y ∷ r) e asc f = (
@@ -119,7 +119,7 @@ module _ {X : Type 0} (cmp : X → X → Ordering) (total : IsTotalOrder cmp) wh
     ascends_on (y ∷ r) e asc.1 f,
   )
 
-entry_follows : (m : List (Scalar × Scalar)) (k v : Scalar) → follows key_cmp m (k, k) ≡ true → follows key_cmp m (k, v) ≡ true
+entry_follows : (m : List (Scalar × Scalar)) (k v : Scalar) → may_follow key_cmp m (k, k) ≡ true → may_follow key_cmp m (k, v) ≡ true
 entry_follows [] k v h = h
 entry_follows (x ∷ []) k v h = h
 entry_follows (x ∷ y ∷ r) k v h = entry_follows (y ∷ r) k v h
@@ -145,8 +145,8 @@ elements_fit : (room : ℕ) (s : List Scalar) (text rest : List ℕ) (v : Value)
 unfolding elements_at
 elements_fit zero s text rest v few asc all h = cc
 elements_fit (suc room) s text rest v few asc all h =
-    after_read (IsValue v) (scalar_at text) (λ e behind. cond (follows scalar_cmp s e) (behind_item (Set (s ++ e ∷ [])) (elements_at room (s ++ e ∷ [])) behind) (Err (length text))) (v, rest) h
-    (λ e behind read i. chosen {A = Read Value} (IsValue v) (follows scalar_cmp s e) (behind_item (Set (s ++ e ∷ [])) (elements_at room (s ++ e ∷ [])) behind) (Err (length text)) (Ok (v, rest)) i
+    after_read (IsValue v) (scalar_at text) (λ e behind. cond (may_follow scalar_cmp s e) (behind_item (Set (s ++ e ∷ [])) (elements_at room (s ++ e ∷ [])) behind) (Err (length text))) (v, rest) h
+    (λ e behind read i. chosen {A = Read Value} (IsValue v) (may_follow scalar_cmp s e) (behind_item (Set (s ++ e ∷ [])) (elements_at room (s ++ e ∷ [])) behind) (Err (length text)) (Ok (v, rest)) i
     (λ f j. let longer = length-append s (e ∷ []) in
     let above = ascends_on scalar_cmp scalars_total s e asc f in
     let each = all_on IsScalar s e all (scalar_fits text behind e read) in
@@ -164,8 +164,8 @@ entries_fit : (room : ℕ) (m : List (Scalar × Scalar)) (text rest : List ℕ) 
 unfolding entries_at
 entries_fit zero m text rest v few asc all h = cc
 entries_fit (suc room) m text rest v few asc all h =
-    after_read (IsValue v) (scalar_at text) (λ k mid. cond (follows key_cmp m (k, k)) (on_read (entry_value_at mid) (λ w behind. behind_item (Map (m ++ (k, w) ∷ [])) (entries_at room (m ++ (k, w) ∷ [])) behind)) (Err (length text))) (v, rest) h
-    (λ k mid key i. chosen {A = Read Value} (IsValue v) (follows key_cmp m (k, k)) (on_read (entry_value_at mid) (λ w behind. behind_item (Map (m ++ (k, w) ∷ [])) (entries_at room (m ++ (k, w) ∷ [])) behind)) (Err (length text)) (Ok (v, rest)) i
+    after_read (IsValue v) (scalar_at text) (λ k mid. cond (may_follow key_cmp m (k, k)) (on_read (entry_value_at mid) (λ w behind. behind_item (Map (m ++ (k, w) ∷ [])) (entries_at room (m ++ (k, w) ∷ [])) behind)) (Err (length text))) (v, rest) h
+    (λ k mid key i. chosen {A = Read Value} (IsValue v) (may_follow key_cmp m (k, k)) (on_read (entry_value_at mid) (λ w behind. behind_item (Map (m ++ (k, w) ∷ [])) (entries_at room (m ++ (k, w) ∷ [])) behind)) (Err (length text)) (Ok (v, rest)) i
     (λ f j. after_read (IsValue v) (entry_value_at mid) (λ w behind. behind_item (Map (m ++ (k, w) ∷ [])) (entries_at room (m ++ (k, w) ∷ [])) behind) (v, rest) j
     (λ w behind value l. let longer = length-append m ((k, w) ∷ []) in
     let above = ascends_on key_cmp keys_total m (k, w) asc (entry_follows m k w f) in

@@ -81,10 +81,10 @@ abbrev pub after_spaces : List ℕ → List ℕ
 after_spaces text = drop (prefix_len (is_byte 32) text) text
 
 -- whether an item may follow others: it is above the last
-abbrev pub follows : {X : Type 0} → (X → X → Ordering) → List X → X → Bool
-follows cmp [] e = true
-follows cmp (x ∷ []) e = is_lt (cmp x e)
-follows cmp (x ∷ y ∷ more) e = follows cmp (y ∷ more) e
+abbrev pub may_follow : {X : Type 0} → (X → X → Ordering) → List X → X → Bool
+may_follow cmp [] e = true
+may_follow cmp (x ∷ []) e = is_lt (cmp x e)
+may_follow cmp (x ∷ y ∷ more) e = may_follow cmp (y ∷ more) e
 
 -- after an item: `}` ends the collection, a comma and spaces are followed by the next item
 abbrev pub behind_item : Value → (List ℕ → Read Value) → List ℕ → Read Value
@@ -96,7 +96,7 @@ behind_item whole more text =
 unfoldable pub elements_at : ℕ → List Scalar → List ℕ → Read Value
 elements_at zero s text = Err (length text)
 elements_at (suc room) s text = on_read (scalar_at text) (λ e rest.
-    if follows scalar_cmp s e then behind_item (Set (s ++ e ∷ [])) (elements_at room (s ++ e ∷ [])) rest else Err (length text))
+    if may_follow scalar_cmp s e then behind_item (Set (s ++ e ∷ [])) (elements_at room (s ++ e ∷ [])) rest else Err (length text))
 
 -- after a key: a colon, spaces and its value
 abbrev pub entry_value_at : List ℕ → Read Scalar
@@ -106,7 +106,7 @@ entry_value_at text = if begins (is_byte 58) text then scalar_at (after_spaces (
 unfoldable pub entries_at : ℕ → List (Scalar × Scalar) → List ℕ → Read Value
 entries_at zero m text = Err (length text)
 entries_at (suc room) m text = on_read (scalar_at text) (λ k rest.
-    if follows key_cmp m (k, k) then on_read (entry_value_at rest) (λ v behind.
+    if may_follow key_cmp m (k, k) then on_read (entry_value_at rest) (λ v behind.
     behind_item (Map (m ++ (k, v) ∷ [])) (entries_at room (m ++ (k, v) ∷ [])) behind)
     else Err (length text))
 
@@ -126,10 +126,10 @@ value_at text =
     else on_read (scalar_at text) (λ s rest. Ok (value_of_scalar s, rest))
 
 -- what was read of `bytes` from the offset `at` on, and the offset after it; or the offset of the first fault
-abbrev pub IsRead : {X : Type 0} → (List ℕ → Read X) → List ℕ → ℕ → Result (X × ℕ) ValueFault → Type 0
-IsRead reader bytes at (Ok x) = (x.1 ≤ length bytes) × (reader (drop at bytes) ≡ Ok (x.0, drop x.1 bytes))
-IsRead reader bytes at (Err NoMemory) = Unit {0}
-IsRead reader bytes at (Err (Unexpected place)) = (place ≤ length bytes) × (reader (drop at bytes) ≡ Err (length bytes - place))
+abbrev pub IsReadValue : {X : Type 0} → (List ℕ → Read X) → List ℕ → ℕ → Result (X × ℕ) ValueFault → Type 0
+IsReadValue reader bytes at (Ok x) = (x.1 ≤ length bytes) × (reader (drop at bytes) ≡ Ok (x.0, drop x.1 bytes))
+IsReadValue reader bytes at (Err NoMemory) = Unit {0}
+IsReadValue reader bytes at (Err (Unexpected place)) = (place ≤ length bytes) × (reader (drop at bytes) ≡ Err (length bytes - place))
 
 -- the same for a word, of which only the end is reported
 abbrev pub IsWordRead : List ℕ → List ℕ → ℕ → Result ℕ ValueFault → Type 0

@@ -11,13 +11,13 @@ bool_text true = codes "true"
 bool_text false = codes "false"
 
 -- a text between quotes
-abbrev pub quoted : List ℕ → List ℕ
-quoted t = 34 ∷ t ++ 34 ∷ []
+abbrev pub quoted_value : List ℕ → List ℕ
+quoted_value t = 34 ∷ t ++ 34 ∷ []
 
 abbrev pub scalar_text : Scalar → List ℕ
 scalar_text (Int z) = signed_decimal z
 scalar_text (Truth b) = bool_text b
-scalar_text (Text t) = quoted t
+scalar_text (Text t) = quoted_value t
 
 -- an entry of a map
 abbrev pub entry_text : Scalar × Scalar → List ℕ
@@ -42,6 +42,6 @@ abbrev pub value_text : Value → List ℕ
 value_text Unit = codes "unit"
 value_text (Number z) = signed_decimal z
 value_text (TruthValue b) = bool_text b
-value_text (TextValue t) = quoted t
+value_text (TextValue t) = quoted_value t
 value_text (Set s) = codes "{" ++ separated (map scalar_text s) ++ codes "}"
 value_text (Map m) = map_text m

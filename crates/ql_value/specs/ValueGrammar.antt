@@ -10,7 +10,7 @@ use Rattle.ql_value.specs.declared.fault.ValueFault.{ValueFault}
 use Rattle.ql_value.specs.declared.fault.ValueFault.TheVariants.{Unexpected, NoMemory}
 use Rattle.ql_value.specs.Collections.{IsMap, IsSet}
 use Rattle.ql_value.specs.Reading.{value_at}
-use Rattle.ql_value.specs.Spelling.{bool_text, quoted, scalar_text, value_text}
+use Rattle.ql_value.specs.Spelling.{bool_text, quoted_value, scalar_text, value_text}
 use Rattle.ql_value.specs.Texts.{IsText}
 
 -- The grammar of values. `ReadsX x text rest` says that `text` begins with a text of `x`, and that `rest` follows it.
@@ -61,7 +61,7 @@ abbrev pub ReadsValue : Value → List ℕ → List ℕ → Type 0
 ReadsValue Nothing text rest = text ≡ codes "unit" ++ rest
 ReadsValue (Number z) text rest = text ≡ signed_decimal z ++ rest
 ReadsValue (TruthValue b) text rest = text ≡ bool_text b ++ rest
-ReadsValue (TextValue t) text rest = text ≡ quoted t ++ rest
+ReadsValue (TextValue t) text rest = text ≡ quoted_value t ++ rest
 ReadsValue (Set s) text rest = ReadsSet s text rest
 ReadsValue (Map m) text rest = ReadsMap m text rest
 

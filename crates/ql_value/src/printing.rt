@@ -4,7 +4,7 @@ ghost use Rattle.ql_value.specs.Spelling.{
   entry_text,
   followed,
   map_text,
-  quoted,
+  quoted_value,
   scalar_text,
   separated,
   value_text,
@@ -65,7 +65,7 @@ fn push_bool(out: &mut Vec<u8>, b: bool) -> Result<(), NoMemory>
 }
 
 fn push_quoted(out: &mut Vec<u8>, text: &TextVal) -> Result<(), NoMemory>
-    ensures text { OnOk result (out.new.items ≡ out.old.items ++ quoted text.now) }
+    ensures text { OnOk result (out.new.items ≡ out.old.items ++ quoted_value text.now) }
     ensures plain { OnOk result (IsText text.now) }
 {
     push_bytes(out, b"\"")?;

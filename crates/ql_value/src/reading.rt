@@ -3,12 +3,12 @@ ghost use Rattle.std.specs.List.{prefix_len};
 ghost use Rattle.ql_value.specs.Contents.{value_of_scalar};
 ghost use Rattle.ql_value.specs.Order.{key_cmp, scalar_cmp};
 ghost use Rattle.ql_value.specs.Reading.{
-  IsRead,
+  IsReadValue,
   collection_at,
   elements_at,
   entries_at,
   entry_value_at,
-  follows,
+  may_follow,
   is_byte,
   value_at,
 };
@@ -26,7 +26,7 @@ use std::alloc::Global;
 /// is read is in the grammar of values and within its limits, and each text of the grammar is read.
 pub fn parse_value(alloc: Global, bytes: &[u8], from: usize) -> Result<(Value, usize), ValueFault>
     requires { from ≤ length bytes.now }
-    ensures read { IsRead value_at bytes.now from result }
+    ensures read { IsReadValue value_at bytes.now from result }
     ensures spelled { IsValueRead bytes.now from result }
     ensures all { ReadsEach (drop from bytes.now) }
 {
@@ -35,7 +35,7 @@ pub fn parse_value(alloc: Global, bytes: &[u8], from: usize) -> Result<(Value, u
 
 fn read_value(alloc: Global, bytes: &[u8], from: usize) -> Result<(Value, usize), ValueFault>
     requires { from ≤ length bytes.now }
-    ensures { IsRead value_at bytes.now from result }
+    ensures { IsReadValue value_at bytes.now from result }
 {
     if is_at(bytes, from, b'u') {
         word(bytes, from, b"unit", Value::Unit)
@@ -66,7 +66,7 @@ fn collection(
 ) -> Result<(Value, usize), ValueFault>
     requires place { at ≤ length bytes.now }
     requires few { room ≤ 256 }
-    ensures { IsRead (collection_at room) bytes.now at result }
+    ensures { IsReadValue (collection_at room) bytes.now at result }
 {
     if is_at(bytes, at, b'}') {
         return Ok((Value::Set(SetVal::of(Vec::new(alloc))), at + 1));
@@ -91,7 +91,7 @@ fn elements(
 ) -> Result<(Value, usize), ValueFault>
     requires place { first ≤ length bytes.now }
     requires few { room ≤ 256 }
-    ensures { IsRead (elements_at room []) bytes.now first result }
+    ensures { IsReadValue (elements_at room []) bytes.now first result }
 {
     let mut elements = Vec::new(alloc);
     let mut at = first;
@@ -121,7 +121,7 @@ fn entries(
 ) -> Result<(Value, usize), ValueFault>
     requires place { first ≤ length bytes.now }
     requires few { room ≤ 256 }
-    ensures { IsRead (entries_at room []) bytes.now first result }
+    ensures { IsReadValue (entries_at room []) bytes.now first result }
 {
     let mut entries = Vec::new(alloc);
     let mut at = first;
@@ -146,7 +146,7 @@ fn entries(
 // The value after a key and its colon.
 fn entry_value(alloc: Global, bytes: &[u8], at: usize) -> Result<(Scalar, usize), ValueFault>
     requires { at ≤ length bytes.now }
-    ensures { IsRead entry_value_at bytes.now at result }
+    ensures { IsReadValue entry_value_at bytes.now at result }
 {
     if is_at(bytes, at, b':') {
         scalar(alloc, bytes, spaces_end(bytes, at + 1))
@@ -157,7 +157,7 @@ fn entry_value(alloc: Global, bytes: &[u8], at: usize) -> Result<(Scalar, usize)
 
 // Whether an element is above the last one.
 fn element_follows(elements: &[Scalar], element: &Scalar) -> bool
-    ensures { result ≡ follows scalar_cmp elements.now element.now }
+    ensures { result ≡ may_follow scalar_cmp elements.now element.now }
 {
     match elements.last() {
         Some(last) => scalar_order(last, element).is_lt(),
@@ -167,7 +167,7 @@ fn element_follows(elements: &[Scalar], element: &Scalar) -> bool
 
 // Whether a key is above the last one.
 fn key_follows(entries: &[(Scalar, Scalar)], key: &Scalar) -> bool
-    ensures { result ≡ follows key_cmp entries.now (key.now, key.now) }
+    ensures { result ≡ may_follow key_cmp entries.now (key.now, key.now) }
 {
     match entries.last() {
         Some(last) => scalar_order(&last.0, key).is_lt(),

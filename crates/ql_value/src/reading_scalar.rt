@@ -2,7 +2,7 @@ ghost use Rattle.std.specs.Prelude.{◌≡◌, ◌≤◌, ◌+◌, ◌<◌, leng
 ghost use Rattle.std.specs.List.{prefix_len};
 ghost use Rattle.ql_base.specs.Bytes.{begins, is_digit, is_text_byte};
 ghost use Rattle.ql_value.specs.Reading.{
-  IsRead,
+  IsReadValue,
   IsWordRead,
   is_byte,
   negative_at,
@@ -40,7 +40,7 @@ fn is_digit_at(bytes: &[u8], at: usize) -> bool
 // A number, a truth value or a text.
 pub(crate) fn scalar(alloc: Global, bytes: &[u8], at: usize) -> Result<(Scalar, usize), ValueFault>
     requires { at ≤ length bytes.now }
-    ensures { IsRead scalar_at bytes.now at result }
+    ensures { IsReadValue scalar_at bytes.now at result }
 {
     if is_at(bytes, at, b't') {
         word(bytes, at, b"true", Scalar::Bool(true))
@@ -65,7 +65,7 @@ pub(crate) fn word<T: Drop>(
     value: T,
 ) -> Result<(T, usize), ValueFault>
     requires { at ≤ length bytes.now }
-    ensures { IsRead (word_at value word.now) bytes.now at result }
+    ensures { IsReadValue (word_at value word.now) bytes.now at result }
 {
     let to = word_end(bytes, at, word)?;
     Ok((value, to))
@@ -89,7 +89,7 @@ fn word_end(bytes: &[u8], at: usize, word: &[u8]) -> Result<usize, ValueFault>
 // A number without a sign.
 fn plain(bytes: &[u8], at: usize) -> Result<(Scalar, usize), ValueFault>
     requires { at ≤ length bytes.now }
-    ensures { IsRead plain_at bytes.now at result }
+    ensures { IsReadValue plain_at bytes.now at result }
 {
     let to = digits_end(bytes, at);
     match number_of(&bytes[at..to], MOST_POSITIVE) {
@@ -101,7 +101,7 @@ fn plain(bytes: &[u8], at: usize) -> Result<(Scalar, usize), ValueFault>
 // A number after its `-`, which is at the offset `at`.
 fn negative(bytes: &[u8], at: usize) -> Result<(Scalar, usize), ValueFault>
     requires { at < length bytes.now }
-    ensures { IsRead (λ text. negative_at text (drop 1 text)) bytes.now at result }
+    ensures { IsReadValue (λ text. negative_at text (drop 1 text)) bytes.now at result }
 {
     let first = at + 1;
     let to = digits_end(bytes, first);
@@ -131,7 +131,7 @@ fn negated(n: u64) -> i64
 // A text after its first quote, which is at the offset `at`.
 fn quoted(alloc: Global, bytes: &[u8], at: usize) -> Result<(Scalar, usize), ValueFault>
     requires { at < length bytes.now }
-    ensures { IsRead (λ text. quoted_at text (drop 1 text)) bytes.now at result }
+    ensures { IsReadValue (λ text. quoted_at text (drop 1 text)) bytes.now at result }
 {
     let first = at + 1;
     let end = text_end(bytes, first);

@@ -16,7 +16,7 @@ use Rattle.ql_value.specs.declared.scalar.Scalar.{Scalar}
 use Rattle.ql_value.specs.declared.scalar.Scalar.TheVariants.{Int, Bool as Truth, Text}
 use Rattle.ql_value.specs.declared.value.Value.{Value}
 use Rattle.ql_value.specs.declared.value.Value.TheVariants.{Unit as Nothing, Int as Number, Bool as TruthValue, Text as TextValue, Set, Map}
-use Rattle.ql_value.specs.Spelling.{bool_text, entry_text, followed, quoted, scalar_text, separated, value_text}
+use Rattle.ql_value.specs.Spelling.{bool_text, entry_text, followed, quoted_value, scalar_text, separated, value_text}
 use Rattle.ql_value.specs.Texts.{IsText}
 use Rattle.ql_value.specs.ValueGrammar.{IsEntry, IsScalar, IsValue, ReadsMore}
 use Rattle.ql_value.proofs.ValueLaws.{printed_again}
@@ -160,7 +160,7 @@ text_low : (b : ℕ) → is_text_byte b ≡ true → 14 ≤ b
 unfolding is_text_byte
 text_low b h = grind (arith, nat_tests, h)
 
-quoted_stay : (t : List ℕ) → IsText t → Stay (quoted t)
+quoted_stay : (t : List ℕ) → IsText t → Stay (quoted_value t)
 quoted_stay t is = (stays_of 34 (omega arith), stay_both t (34 ∷ []) (each_by_index StaysIn t (λ k lt. stays_of (get_or t k 0) (text_low (get_or t k 0) (is.plain k 0 lt)))) (stays_of 34 (omega arith), tt))
 
 signed_stay : (n : ℕ) → Stay (45 ∷ decimal n)

@@ -12,7 +12,7 @@ use Rattle.ql_exec.specs.declared.effect.Effect.{Effect}
 use Rattle.ql_exec.specs.declared.effect.Member.{Member}
 use Rattle.ql_exec.specs.declared.effect.Member.TheVariants.{Alone, Inside}
 use Rattle.ql_exec.specs.Effects.{effect_at, in_run, last, of_session, one}
-use Rattle.ql_exec.specs.Execution.{IsExecution, IsOn, SeesEarlier, effect_of, fault_of, greatest, seen_stamp, session_stamp, splits, stamp_at, stamp_of, strays, with_stamp}
+use Rattle.ql_exec.specs.Execution.{IsExecution, IsOn, SeesEarlier, effect_of, draft_fault, greatest, seen_stamp, session_stamp, splits, stamp_at, stamp_of, strays, with_stamp}
 use Rattle.ql_exec.proofs.Finding.{effect_at-append, effect_at-last}
 use Rattle.ql_exec.proofs.Law.{IsExecution-front, fault_of-None, faultless, no_fault}
 use Rattle.ql_verdicts.specs.Renumbered.{renumbered}
@@ -126,7 +126,7 @@ module _ (number : ℕ → ℕ) where
       ascending,
     )
 
-    pub no_other_fault : fault_of (others x) (draft_from e (record { 0 = number e.object.0 })) ≡ None
+    pub no_other_fault : draft_fault (others x) (draft_from e (record { 0 = number e.object.0 })) ≡ None
     no_other_fault = no_fault (others x) (draft_from e (record { 0 = number e.object.0 })) sees (same-splits x e.session e.member ∙ no_split)
 
     pub other_stamp : stamp_of (others x) e.session e.seen ≡ e.stamp

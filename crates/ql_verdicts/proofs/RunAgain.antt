@@ -9,7 +9,7 @@ use Rattle.ql_base.specs.Ranges.{upto}
 use Rattle.ql_base.specs.Names.{IsName}
 use Rattle.ql_lang.specs.declared.program.Program.{Program}
 use Rattle.ql_levels.specs.Lists.{LevelLists}
-use Rattle.ql_levels.specs.Words.{word_of, txn_word_of}
+use Rattle.ql_levels.specs.Words.{op_level_word, txn_word_of}
 use Rattle.ql_levels.specs.declared.level.Level.{Level}
 use Rattle.ql_levels.specs.declared.level.Level.TheVariants.{Eventual, Causal, Wide, Strong}
 use Rattle.ql_levels.specs.declared.level.TxnLevel.{TxnLevel}
@@ -90,7 +90,7 @@ visible_bytes (b ∷ bs) e = (let h = and_parts (nat_le 33 b) (are_visible bs) e
 word : (w : List ℕ) → are_visible w ≡ true → Stay w
 word w e = high_stay w (visible_bytes w e)
 
-level_stays : (l : Level) → Stay (word_of l)
+level_stays : (l : Level) → Stay (op_level_word l)
 level_stays Eventual = word (codes "eventual") refl
 level_stays Causal = word (codes "causal") refl
 level_stays Wide = word (codes "wide") refl
@@ -182,7 +182,7 @@ module _ (p : Program) (objects : List (List ℕ)) (levels : LevelLists) (replie
   -- ---- level lines
 
   unfoldable op_fields : ℕ → Fields
-  op_fields o = codes "op" ∷ op_name p o ∷ option_map_or word_of (slice_get levels.ops o) [] ∷ []
+  op_fields o = codes "op" ∷ op_name p o ∷ option_map_or op_level_word (slice_get levels.ops o) [] ∷ []
 
   op_same : (o : ℕ) → op_line p levels o ≡ joined (op_fields o) ++ 10 ∷ []
   unfolding op_fields
@@ -191,8 +191,8 @@ module _ (p : Program) (objects : List (List ℕ)) (levels : LevelLists) (replie
   op_passes : (o : ℕ) → o < length (all_ops p.types) → IsPassed (op_fields o)
   unfolding op_fields
   op_passes o less = record {
-    stays = joined_stay (codes "op" ∷ op_name p o ∷ option_map_or word_of (slice_get levels.ops o) [] ∷ [])
-        (word (codes "op") refl, (name_stays (op_name p o) (is.names.op o less).0, (maybe_stays word_of level_stays (slice_get levels.ops o), tt)));
+    stays = joined_stay (codes "op" ∷ op_name p o ∷ option_map_or op_level_word (slice_get levels.ops o) [] ∷ [])
+        (word (codes "op") refl, (name_stays (op_name p o) (is.names.op o less).0, (maybe_stays op_level_word level_stays (slice_get levels.ops o), tt)));
     begins = (111, codes "p", refl, refl, λ e. omega (arith, e));
   }
 

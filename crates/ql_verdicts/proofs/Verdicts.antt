@@ -19,7 +19,7 @@ use Rattle.ql_judging.proofs.Begun.{IsUnder, one_name, under}
 use Rattle.ql_machine.specs.Promised.{IsUnderName}
 use Rattle.ql_verdicts.specs.Renumbered.{IsRenumbered, renumbered}
 use Rattle.ql_verdicts.proofs.Renumbering.{other_at, others}
-use Rattle.ql_running.specs.Soundness.{IsSound}
+use Rattle.ql_running.specs.Soundness.{IsSoundRun}
 use Rattle.ql_verify.specs.Verdicts.{AllOpsHold, AllTxnsHold, IsJudgedAt, IsJudgedOf, IsVerdict}
 use Rattle.ql_verify.specs.Work.{with_run, with_runs}
 use Rattle.ql_verdicts.proofs.Truth.{holds-too, holds-txn-too}
@@ -38,7 +38,7 @@ under-name x lawful run name begun a e at inside = by a at e.member refl inside
 
 -- ---- in the execution itself
 
-module _ (p : Program) (x : List Effect) (lawful : IsExecution x) (sound : IsSound p x) where
+module _ (p : Program) (x : List Effect) (lawful : IsExecution x) (sound : IsSoundRun p x) where
   ops-hold : AllOpsHold p x
   ops-hold a f judged =
       let met = sound.operations a judged.effect judged.is in
@@ -81,7 +81,7 @@ module _ (p : Program) (number : ℕ → ℕ) (x : List Effect) where
   }
 
 -- what is true of a run's execution is said of the one that its text is read as
-pub sound-verdict : (p : Program) (x y : List Effect) → IsExecution x → IsSound p x → IsRenumbered x y → IsVerdict p y None
+pub sound-verdict : (p : Program) (x y : List Effect) → IsExecution x → IsSoundRun p x → IsRenumbered x y → IsVerdict p y None
 sound-verdict p x y lawful sound renamed =
     let number = renamed.number in
     subst (λ (z : List Effect). IsVerdict p z None) (sym renamed.is) (

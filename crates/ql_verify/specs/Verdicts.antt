@@ -16,8 +16,8 @@ use Rattle.ql_verify.specs.declared.breach.VerifyWhy.TheVariants.{TooMuch, NoMem
 use Rattle.ql_verify.specs.Work.{runs_of, work_of}
 
 -- the operation of each effect is one of the program's
-abbrev pub AreOfProgram : Program → List Effect → Type 0
-AreOfProgram p x = All (λ e. e.op.0 < length (all_ops p.types)) x
+abbrev pub AreOfDeclaredOps : Program → List Effect → Type 0
+AreOfDeclaredOps p x = All (λ e. e.op.0 < length (all_ops p.types)) x
 
 -- the contract of an effect's operation
 pub record IsJudgedAt (p : Program) (x : List Effect) (a : ℕ) (f : Resolved) : Type 0 where

@@ -2,7 +2,7 @@ ghost use Rattle.std.specs.Prelude.{◌≡◌, ◌≤◌, IfOk, MatchOption, len
 ghost use Rattle.ql_base.specs.IdLists.{IsAscending};
 ghost use Rattle.ql_lang.specs.Formulas.{resolved_of};
 ghost use Rattle.ql_formula.specs.Tables.{IsTableOf};
-ghost use Rattle.ql_verify.specs.Verdicts.{AllOpsHold, AllTxnsHold, AreOfProgram, IsOpBreach, IsTxnBreach};
+ghost use Rattle.ql_verify.specs.Verdicts.{AllOpsHold, AllTxnsHold, AreOfDeclaredOps, IsOpBreach, IsTxnBreach};
 ghost use Rattle.ql_verify.specs.Firsts.{AllHold, IsFirstRunOf, earlier};
 
 use crate::runs::runs_of;
@@ -19,7 +19,7 @@ pub(crate) fn first_effect(
     execution: &Execution,
     relations: &Relations,
 ) -> Option<(EffId, Places)>
-    requires ops { AreOfProgram t.now.program execution.now }
+    requires ops { AreOfDeclaredOps t.now.program execution.now }
     requires tables { IsTableOf relations.now execution.now }
     ensures { MatchOption result (AllOpsHold t.now.program execution.now)
         (λ found. IsOpBreach t.now.program execution.now found.0.0 (map (λ id. id.0) found.1)) }

@@ -1,5 +1,5 @@
 ghost use Rattle.std.specs.Prelude.{◌≤◌, IfErr, IfOk, length};
-ghost use Rattle.ql_verify.specs.Verdicts.{AreOfProgram, IsTooMuch, IsVerdict};
+ghost use Rattle.ql_verify.specs.Verdicts.{AreOfDeclaredOps, IsTooMuch, IsVerdict};
 ghost use Rattle.ql_verify.specs.Work.{work_of};
 
 use crate::breach::{Breach, VerifyWhy};
@@ -17,7 +17,7 @@ use std::alloc::Global;
 /// number of effects to the power of the number of the contract's variables.
 pub fn verify(alloc: Global, t: &Typed, execution: &Execution) -> Result<Option<Breach>, VerifyWhy>
     requires few { length execution.now ≤ 4000 }
-    requires ops { AreOfProgram t.now.program execution.now }
+    requires ops { AreOfDeclaredOps t.now.program execution.now }
     ensures verdict { IfOk result (IsVerdict t.now.program execution.now) }
     ensures judged { IfOk result (λ _. work_of t.now.program execution.now ≤ 20000000) }
     ensures too_much { IfErr result (IsTooMuch t.now.program execution.now) }

@@ -20,7 +20,7 @@ module _ (p : Program) where
   fits (OpAt o level) c (f, e, cur, at, is) = is.fits
   fits (TxnAt d level) c (f, e, run, at, is) = is.fits
 
-  declared : (m : Member) → counter.IsDeclared p m → IsDeclared p m
+  declared : (m : Member) → counter.IsDeclaredMember p m → IsDeclared p m
   declared Alone h = tt
   declared (Inside run name) h = h
 

@@ -20,7 +20,7 @@ use Rattle.ql_judging.specs.Verify.{places_text}
 use Rattle.ql_lang.specs.declared.contract.Var.{Var}
 use Rattle.ql_lang.specs.declared.program.Program.{Program}
 use Rattle.ql_levels.specs.Lists.{LevelLists}
-use Rattle.ql_levels.specs.Words.{txn_word_of, word_of}
+use Rattle.ql_levels.specs.Words.{txn_word_of, op_level_word}
 use Rattle.ql_report.specs.Refusals.{op_vars, txn_vars}
 use Rattle.ql_report.specs.EffectTexts.{execution_text}
 use Rattle.ql_typing.specs.Names.{op_name, txn_name}
@@ -28,7 +28,7 @@ use Rattle.ql_typing.specs.Names.{op_name, txn_name}
 -- ---- the text of a countermodel
 
 abbrev pub level_text : Goal → List ℕ
-level_text (OpAt o level) = word_of level
+level_text (OpAt o level) = op_level_word level
 level_text (TxnAt d level) = txn_word_of level
 
 -- the effect or the begun transaction at which the contract fails
@@ -42,14 +42,14 @@ vars_of p (OpAt o level) = op_vars p o.0
 vars_of p (TxnAt d level) = txn_vars p d.0
 
 -- why LEVEL at E v=E, or why LEVEL txn K v=E
-abbrev pub heading_text : Program → Goal → Counter → List ℕ
-heading_text p g c = codes "why " ++ level_text g ++ at_text c.at ++ places_text (vars_of p g) (numbers c.places) ++ codes "\n"
+abbrev pub block_heading : Program → Goal → Counter → List ℕ
+block_heading p g c = codes "why " ++ level_text g ++ at_text c.at ++ places_text (vars_of p g) (numbers c.places) ++ codes "\n"
 
 abbrev pub object_names : List (List ℕ)
 object_names = codes "o0" ∷ codes "o1" ∷ codes "o2" ∷ codes "o3" ∷ codes "o4" ∷ codes "o5" ∷ codes "o6" ∷ []
 
 abbrev pub counter_text : Program → Goal → Counter → List ℕ
-counter_text p g c = heading_text p g c ++ execution_text p object_names c.execution
+counter_text p g c = block_heading p g c ++ execution_text p object_names c.execution
 
 -- the text of some countermodel of the goal
 abbrev pub IsCounterText : Program → Goal → List ℕ → Type 0
@@ -65,7 +65,7 @@ abbrev pub why_txn_line : Program → ℕ → List ℕ → List ℕ
 why_txn_line p d level = codes "txn " ++ txn_name p d ++ codes " " ++ level ++ codes "\n"
 
 abbrev pub target_line : Program → Goal → List ℕ
-target_line p (OpAt o level) = why_op_line p o.0 (word_of level)
+target_line p (OpAt o level) = why_op_line p o.0 (op_level_word level)
 target_line p (TxnAt d level) = why_txn_line p d.0 (txn_word_of level)
 
 -- a text of each, one after another

@@ -3,7 +3,7 @@ ghost use Rattle.std.specs.Prelude.{◌≡◌, ◌++◌, OnOk, OnErr};
 ghost use Rattle.ql_counter.specs.Countermodels.{AreWithin, IsCounterOf, IsSatisfiedBy};
 ghost use Rattle.ql_ground.specs.OfPrograms.{IsGoalOf};
 ghost use Rattle.ql_report.specs.EffectTexts.{AreNamed, execution_text};
-ghost use Rattle.ql_why.specs.Why.{Appended, IsCounterText, at_text, counter_text, heading_text, level_text, object_names, vars_of};
+ghost use Rattle.ql_why.specs.Why.{Appended, IsCounterText, at_text, counter_text, block_heading, level_text, object_names, vars_of};
 
 use crate::objects::object_names;
 use ql_base::{NoMemory, push_bytes, push_number};
@@ -57,7 +57,7 @@ pub fn push_counter(
 // The level, where the contract fails, and the effect of each of its variables.
 fn push_heading(out: &mut Vec<u8>, t: &Typed, g: Goal, c: &Counter) -> Result<(), NoMemory>
     requires { IsGoalOf t.now.program g }
-    ensures { OnOk result (out.new.items ≡ out.old.items ++ heading_text t.now.program g c.now) }
+    ensures { OnOk result (out.new.items ≡ out.old.items ++ block_heading t.now.program g c.now) }
 {
     push_bytes(out, b"why ")?;
     push_bytes(out, level_text(g).as_bytes())?;

@@ -1,5 +1,5 @@
 ghost use Rattle.std.specs.Prelude.{◌≡◌, ◌≢◌, ◌++◌, List, ℕ, IfOk, OnOk};
-ghost use Rattle.ql_classify.specs.Outcome.{IsRefusal, all_tests};
+ghost use Rattle.ql_classify.specs.Outcome.{IsLevelRefusal, all_tests};
 ghost use Rattle.ql_commands.specs.Levels.{refusal_text};
 ghost use Rattle.ql_reply.specs.declared.status.Status.TheVariants.{No};
 ghost use Rattle.ql_why.specs.Why.{IsTopText};
@@ -20,7 +20,7 @@ pub(crate) fn refused_with_reason(
     t: &Typed,
     why: Classless,
 ) -> Result<Reply, NoMemory>
-    requires { IsRefusal t.now.program (all_tests t.now.program) why }
+    requires { IsLevelRefusal t.now.program (all_tests t.now.program) why }
     ensures known { OnOk result (why ≢ Classless.NoMemory) }
     ensures status { IfOk result (λ reply. reply.status ≡ No) }
     ensures text { IfOk result
@@ -43,7 +43,7 @@ pub(crate) fn refused_with_reason(
 
 // The countermodel of the highest level, where it isn't enough.
 fn reason(alloc: Global, t: &Typed, why: &Classless) -> Result<Vec<u8>, NoMemory>
-    requires { IsRefusal t.now.program (all_tests t.now.program) why.now }
+    requires { IsLevelRefusal t.now.program (all_tests t.now.program) why.now }
     ensures { IfOk result (λ text. IsTopText t.now.program why.now text.items) }
 {
     let mut text = Vec::new(alloc);

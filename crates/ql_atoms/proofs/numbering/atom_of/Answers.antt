@@ -1,13 +1,13 @@
 use Rattle.std.proofs.Common.{◌≡◌, ◌≤◌, ap, sym, ◌∙◌, arith, rules, Some}
 use Rattle.ql_atoms.specs.declared.atoms.Atom.TheVariants.{Pair, Is}
-use Rattle.ql_atoms.specs.Atoms.{Fits, size_of, number_of, count_of}
+use Rattle.ql_atoms.specs.Atoms.{Fits, size_of, number_of, atom_count}
 use Rattle.ql_atoms.proofs.Numbers.{same_atom, counted}
 use Rattle.ql_atoms.proofs.numbering.atom_of.Goals as goal
 use Rattle.ql_atoms.proofs.numbering.atom_of.Goals.{then-n-eq0-via-then-n-eq0, then-n-eq0-via-else-n-eq0+then-n-relations}
 
 pub returns-then-n-eq0-clause-only : goal.returns-then-n-eq0-clause-only
 returns-then-n-eq0-clause-only c a h e =
-    let last : number_of (size_of c.args.s) a ≤ count_of (size_of c.args.s) = counted (size_of c.args.s) a h in
+    let last : number_of (size_of c.args.s) a ≤ atom_count (size_of c.args.s) = counted (size_of c.args.s) a h in
     elim c.then-n-eq0.branch [
       | then-n-eq0-via-then-n-eq0 w ↦ absurd (omega arith)
       | then-n-eq0-via-else-n-eq0+then-n-relations w ↦ absurd (omega arith)

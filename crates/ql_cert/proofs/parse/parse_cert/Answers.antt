@@ -1,7 +1,7 @@
 use Rattle.std.proofs.Common.{sym, subst}
 use Rattle.ql_lines.specs.Lines.{ahead_from}
 use Rattle.ql_cert.specs.CertFile.{IsCertFile}
-use Rattle.ql_cert.specs.Faults.{IsRefusal}
+use Rattle.ql_cert.specs.Faults.{IsCertRefusal}
 use Rattle.ql_cert.proofs.FirstFaults.{refusal, says_file}
 use Rattle.ql_cert.proofs.States.{cert_reader}
 use Rattle.ql_cert.proofs.parse.parse_cert.Goals as goal
@@ -11,4 +11,4 @@ returns-in-Ok c = says_file cert_reader (ahead_from 1 c.args.bytes.now) c.in-Ok.
 
 pub returns-in-Err : goal.returns-in-Err
 returns-in-Err c =
-    subst (IsRefusal IsCertFile (ahead_from 1 c.args.bytes.now)) (sym c.fault_of.ensures) (refusal cert_reader (ahead_from 1 c.args.bytes.now) c.in-Err.fault c.in-Err.ensures)
+    subst (IsCertRefusal IsCertFile (ahead_from 1 c.args.bytes.now)) (sym c.fault_of.ensures) (refusal cert_reader (ahead_from 1 c.args.bytes.now) c.in-Err.fault c.in-Err.ensures)

@@ -1,7 +1,7 @@
 use Rattle.std.proofs.Common.{arith, sym, subst}
 use Rattle.ql_lines.proofs.LineLaws.{few_lines}
 use Rattle.ql_lines.specs.Lines.{ahead_from}
-use Rattle.ql_cert.specs.Faults.{IsRefusal}
+use Rattle.ql_cert.specs.Faults.{IsCertRefusal}
 use Rattle.ql_cert.specs.ProofFile.{IsProofFile}
 use Rattle.ql_cert.proofs.FirstFaults.{refusal, says_file}
 use Rattle.ql_cert.proofs.ProofStates.{proof_reader}
@@ -15,4 +15,4 @@ returns-in-Ok c = says_file proof_reader (ahead_from 1 c.args.bytes.now) (c.in-O
 
 pub returns-in-Err : goal.returns-in-Err
 returns-in-Err c =
-    subst (IsRefusal IsProofFile (ahead_from 1 c.args.bytes.now)) (sym c.fault_of.ensures) (refusal proof_reader (ahead_from 1 c.args.bytes.now) c.in-Err.fault c.in-Err.ensures)
+    subst (IsCertRefusal IsProofFile (ahead_from 1 c.args.bytes.now)) (sym c.fault_of.ensures) (refusal proof_reader (ahead_from 1 c.args.bytes.now) c.in-Err.fault c.in-Err.ensures)

@@ -1,7 +1,7 @@
 use Rattle.std.proofs.Common.{[], ◌∷◌}
 use Rattle.std.specs.List.{All}
 use Rattle.std.proofs.lemmas.Result.{IfErr-weaker, IfOk-weaker, err_from_is_err_and}
-use Rattle.ql_classify.specs.Outcome.{IsRefusal, Passes, TxnHasLevel, use_tests, txn_tests}
+use Rattle.ql_classify.specs.Outcome.{IsLevelRefusal, Passes, TxnHasLevel, use_tests, txn_tests}
 use Rattle.ql_classify.specs.Targets.{txn_at}
 use Rattle.ql_classify.proofs.LeastLevels.{least}
 use Rattle.ql_classify.proofs.TestOrder.{refusal_longer, refusal_after, txn_passes}
@@ -20,6 +20,6 @@ returns-clause-passed c =
 
 pub returns-clause-refused : goal.returns-clause-refused
 returns-clause-refused c =
-    IfErr-weaker c.find_txn_level.result (IsRefusal c.args.t.now.program (TxnHasLevel c.args.d.0 ∷ [])) (IsRefusal c.args.t.now.program (txn_tests c.args.t.now.program c.args.d.0))
+    IfErr-weaker c.find_txn_level.result (IsLevelRefusal c.args.t.now.program (TxnHasLevel c.args.d.0 ∷ [])) (IsLevelRefusal c.args.t.now.program (txn_tests c.args.t.now.program c.args.d.0))
     (λ e h. refusal_after c.args.t.now.program (use_tests c.args.t.now.program c.args.d.0) (TxnHasLevel c.args.d.0 ∷ []) e c.in_ok-check_uses.ensures.passed h)
     c.find_txn_level.ensures.none

@@ -3,7 +3,7 @@ use Rattle.ql_lang.specs.Formulas.{resolved_of}
 use Rattle.ql_atoms.specs.declared.atoms.PairKind.TheVariants.{SameTxn}
 use Rattle.ql_counter.specs.Patterns.{class_of}
 use Rattle.ql_counter.specs.Built.{built}
-use Rattle.ql_counter.specs.Assigned.{alone, begun, constant_places, pattern_of, related_by}
+use Rattle.ql_counter.specs.Assigned.{alone, begun_member, constant_places, pattern_of, related_by}
 use Rattle.ql_counter.proofs.Joined.{size, txn-lawful, txn-made}
 use Rattle.ql_counter.proofs.construction.of_transaction.Goals as goal
 
@@ -17,7 +17,7 @@ returns c = λ types e.
     let first = c.first_current.ensures in
     txn-made a types (resolved_of c.args.f.now) c.args.name n c.args.operations vars e
     c.in_ok-slots.slots.items c.in_ok-slots.ensures.slots
-    c.in_ok-execution.field-0 (c.in_ok-execution.ensures ∙ ap (built (pattern_of a s (begun a s c.args.name.0))) c.deref-2.ensures.value)
+    c.in_ok-execution.field-0 (c.in_ok-execution.ensures ∙ ap (built (pattern_of a s (begun_member a s c.args.name.0))) c.deref-2.ensures.value)
     (c.class-run.result + 1) (omega (arith, run) ∙ ap (λ k. suc (class_of n (related_by a s SameTxn) k)) first)
     c.in_ok-places.places (c.in_ok-places.ensures ∙ ap (λ ys. constant_places (pattern_of a s alone) ys n) c.deref.ensures.value)
 

@@ -1,5 +1,5 @@
 use Rattle.std.proofs.Common.{◌≡◌, [], ◌∷◌}
-use Rattle.ql_atoms.specs.Atoms.{size_of, count_of}
+use Rattle.ql_atoms.specs.Atoms.{size_of, atom_count}
 use Rattle.ql_atoms.specs.declared.atoms.Atom.TheVariants.{Is}
 use Rattle.ql_cnf.specs.Satisfaction.{AreInRange}
 use Rattle.ql_base.specs.Ranges.{upto}
@@ -10,5 +10,5 @@ use Rattle.ql_ground.proofs.operation_axioms.push_operations.Given as goal
 abbrev pub invariant-loop-o : goal.invariant-loop-o
 invariant-loop-o l = record {
   lits : l.lits.items ≡ implication (size_of l.s) [] (upto l.o (λ o. Is (op o) l.i ∷ []));
-  in_range : AreInRange (count_of (size_of l.s)) l.lits.items;
+  in_range : AreInRange (atom_count (size_of l.s)) l.lits.items;
 }

@@ -1,6 +1,6 @@
 use Rattle.std.proofs.lemmas.Result.{err_from_is_err_and}
 use Rattle.std.proofs.Common.{List, subst, sym}
-use Rattle.ql_atoms.specs.Atoms.{size_of, count_of}
+use Rattle.ql_atoms.specs.Atoms.{size_of, atom_count}
 use Rattle.ql_cnf.specs.declared.lit.Lit.{Lit}
 use Rattle.ql_cnf.specs.Satisfaction.{AreInRange}
 use Rattle.ql_ground.proofs.Growth.{in_range_more}
@@ -9,7 +9,7 @@ use Rattle.ql_ground.proofs.rule.add_instance.Goals as goal
 pub add_clause-requires : goal.add_clause-requires
 add_clause-requires c = record {
   in_range = subst (λ (lits : List Lit). AreInRange c.args.c.now.variables lits) (sym c.deref.ensures.value)
-      (in_range_more (count_of (size_of c.args.s)) c.args.c.now.variables c.push_literals-2.new.lits.items c.requires.variables c.in_ok-push_literals-2.ensures.in_range);
+      (in_range_more (atom_count (size_of c.args.s)) c.args.c.now.variables c.push_literals-2.new.lits.items c.requires.variables c.in_ok-push_literals-2.ensures.in_range);
 }
 
 pub returns-in_err-push_literals-clause-clauses : goal.returns-in_err-push_literals-clause-clauses

@@ -8,7 +8,7 @@ use Rattle.ql_report.specs.EffectTexts.{IsNamed}
 use Rattle.std.specs.Prelude.{length}
 use Rattle.serde_json.proofs.Views.{view-Array}
 use Rattle.ql_report.specs.JsonRuns.{effects_from}
-use Rattle.ql_report.specs.JsonValues.{listed}
+use Rattle.ql_report.specs.JsonValues.{list_data}
 use Rattle.ql_report.proofs.Lists.{effect_there, more_effects}
 use Rattle.ql_report.proofs.json_execution.json_effects.Goals as goal
 
@@ -31,7 +31,7 @@ loop-k-preserved c =
     more_effects c.args.t.now.program c.args.objects.now x c.loop-k.k e _ _ c.in_ok-effect.effect c.in_ok-push.ensures.items c.loop-k.invariant c.in_ok-effect.ensures at
 
 pub returns : goal.returns
-returns c = view-Array c.loop-k.list ∙ ap listed (c.loop-k.invariant ∙ ap (effects_from c.args.t.now.program c.args.objects.now 1) (take_all c.loop-k.k c.args.x.now (omega arith)))
+returns c = view-Array c.loop-k.list ∙ ap list_data (c.loop-k.invariant ∙ ap (effects_from c.args.t.now.program c.args.objects.now 1) (take_all c.loop-k.k c.args.x.now (omega arith)))
 
 pub returns-in_err-effect : goal.returns-in_err-effect
 returns-in_err-effect c = let p = err_from_is_err_and c.from_residual.result c.from_residual.ensures.1 in rw p.1 tt

@@ -7,7 +7,7 @@ use Rattle.serde_json.specs.Data.{Data}
 use Rattle.serde_json.specs.Read.{read}
 use Rattle.serde_json.specs.Written.{compact_text}
 use Rattle.ql_report.specs.JsonRuns.{effects_from, levels_data, run_data}
-use Rattle.ql_report.specs.JsonValues.{listed, text_data}
+use Rattle.ql_report.specs.JsonValues.{list_data, text_data}
 use Rattle.ql_report.proofs.Depths.{run_nests}
 use Rattle.ql_report.proofs.LineEnd.{reads_line}
 use Rattle.ql_report.proofs.Texts.{run_line, run_reads_back, text_compact, text_read}
@@ -19,8 +19,8 @@ returns-clause-text c =
     let objects = c.args.objects.now in
     let levels = c.args.l.now in
     let x = c.args.x.now in
-    let said : List Reply → Data = λ rs. listed (map (λ r. text_data (joined (reply_fields x r))) rs) in
-    run_line (listed (effects_from p objects 1 x)) (listed (levels_data p levels)) (said c.as_slice.result.now) _ _ _ _ _ _ _ _ c.new-text.ensures.items c.in_ok-push_bytes.ensures.ok c.in_ok-push_effects.ensures.text c.in_ok-push_bytes-2.ensures.ok c.in_ok-push_levels.ensures.text
+    let said : List Reply → Data = λ rs. list_data (map (λ r. text_data (joined (reply_fields x r))) rs) in
+    run_line (list_data (effects_from p objects 1 x)) (list_data (levels_data p levels)) (said c.as_slice.result.now) _ _ _ _ _ _ _ _ c.new-text.ensures.items c.in_ok-push_bytes.ensures.ok c.in_ok-push_effects.ensures.text c.in_ok-push_bytes-2.ensures.ok c.in_ok-push_levels.ensures.text
     c.in_ok-push_bytes-3.ensures.ok c.in_ok-push_replies.ensures.text c.in_ok-push_bytes-4.ensures.ok
     ∙ ap (λ (rs : List Reply). compact_text (run_data p objects levels rs x) ++ 10 ∷ []) c.as_slice.ensures.value
 
@@ -30,11 +30,11 @@ returns-clause-again c =
     let objects = c.args.objects.now in
     let levels = c.args.l.now in
     let x = c.args.x.now in
-    let said : List Reply → Data = λ rs. listed (map (λ r. text_data (joined (reply_fields x r))) rs) in
+    let said : List Reply → Data = λ rs. list_data (map (λ r. text_data (joined (reply_fields x r))) rs) in
     let run : List Reply → Data = λ rs. run_data p objects levels rs x in
     let rs = c.as_slice.result.now in
-    let back = run_reads_back (listed (effects_from p objects 1 x)) (listed (levels_data p levels)) (said rs) c.in_ok-push_effects.ensures.again c.in_ok-push_levels.ensures.again c.in_ok-push_replies.ensures.again in
-    let text = run_line (listed (effects_from p objects 1 x)) (listed (levels_data p levels)) (said rs) _ _ _ _ _ _ _ _ c.new-text.ensures.items c.in_ok-push_bytes.ensures.ok c.in_ok-push_effects.ensures.text c.in_ok-push_bytes-2.ensures.ok
+    let back = run_reads_back (list_data (effects_from p objects 1 x)) (list_data (levels_data p levels)) (said rs) c.in_ok-push_effects.ensures.again c.in_ok-push_levels.ensures.again c.in_ok-push_replies.ensures.again in
+    let text = run_line (list_data (effects_from p objects 1 x)) (list_data (levels_data p levels)) (said rs) _ _ _ _ _ _ _ _ c.new-text.ensures.items c.in_ok-push_bytes.ensures.ok c.in_ok-push_effects.ensures.text c.in_ok-push_bytes-2.ensures.ok
     c.in_ok-push_levels.ensures.text c.in_ok-push_bytes-3.ensures.ok c.in_ok-push_replies.ensures.text c.in_ok-push_bytes-4.ensures.ok in
     ap read text ∙ reads_line (compact_text (run rs)) (run rs) (text_compact (run rs) back) (text_read (run rs) back (run_nests p objects levels rs x)) ∙ ap (λ d. Some (run d)) c.as_slice.ensures.value
 

@@ -2,7 +2,7 @@ use Rattle.std.proofs.lemmas.Result.{err_from_is_err_and}
 use Rattle.std.proofs.Common.{◌∙◌, length, refl, ap, arith}
 use Rattle.std.proofs.lemmas.Option.{slice_get_read}
 use Rattle.serde_json.proofs.Views.{view-Array}
-use Rattle.ql_report.specs.JsonValues.{value_data, listed}
+use Rattle.ql_report.specs.JsonValues.{value_data, list_data}
 use Rattle.ql_report.proofs.Lists.{all_made, one_more}
 use Rattle.ql_report.proofs.json_values.values.Goals as goal
 
@@ -12,7 +12,7 @@ loop-k-preserved c =
     one_more value_data c.args.values.now c.loop-k.k c.index-values-k.result _ _ _ c.in_ok-push.ensures.items c.loop-k.invariant c.in_ok-value.ensures at
 
 pub returns : goal.returns
-returns c = view-Array c.loop-k.list ∙ ap listed (all_made value_data c.args.values.now c.loop-k.k c.loop-k.list.items c.loop-k.invariant (omega (arith, c.loop-k-test.false)))
+returns c = view-Array c.loop-k.list ∙ ap list_data (all_made value_data c.args.values.now c.loop-k.k c.loop-k.list.items c.loop-k.invariant (omega (arith, c.loop-k-test.false)))
 
 pub returns-in_err-list : goal.returns-in_err-list
 returns-in_err-list c = let p = err_from_is_err_and c.from_residual.result c.from_residual.ensures.1 in rw p.1 tt

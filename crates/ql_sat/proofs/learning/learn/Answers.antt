@@ -1,7 +1,7 @@
 use Rattle.std.proofs.lemmas.Result.{err_from_is_err_and}
 use Rattle.std.proofs.Common.{◌≡◌, ◌+◌, Some, take, ap, sym, ◌∙◌}
 use Rattle.std.specs.Prelude.{reverse}
-use Rattle.ql_refute.specs.Marks.{marked}
+use Rattle.ql_refute.specs.Marks.{assignment_of_marks}
 use Rattle.ql_refute.specs.Partial.{Partial, nothing}
 use Rattle.ql_refute.specs.Verdict.{hinted}
 use Rattle.ql_refute.specs.declared.refutation.Hint.TheVariants.{Earlier}
@@ -54,7 +54,7 @@ returns c =
     let named : hinted c.args.c.now c.keep.new.lines.items (Earlier c.in_ok-number.number) ≡ Some c.in_ok-clause.clause = rw c.in_ok-number.ensures.pushed (pushed_names c.args.c.now c.args.search.now.lines.items _ c.in_ok-number.number c.in_ok-number.ensures.number) in
     let first = rw (c.deref.ensures.value, c.in-Some.is) at c.in_ok-found.ensures.found in
     let longer = rw c.go_back.ensures.steps at c.in_ok-read_learned.ensures.forced in
-    let before : marked c.go_back.new.trail.marks.items ≡ assigned_from nothing (take c.in-Some.to c.args.search.now.trail.steps.items) = rw c.go_back.ensures.steps at (c.go_back.ensures.searching c.args.c.now c.keep.new.lines.items kept).values in
+    let before : assignment_of_marks c.go_back.new.trail.marks.items ≡ assigned_from nothing (take c.in-Some.to c.args.search.now.trail.steps.items) = rw c.go_back.ensures.steps at (c.go_back.ensures.searching c.args.c.now c.keep.new.lines.items kept).values in
     let sound = rw c.deref-4.ensures.value at c.in_ok-read_learned.ensures.sound in
     let literal = rw c.deref-4.ensures.value at c.in_ok-read_learned.ensures.literal in
     let pair = rw (c.deref-5.ensures.value, c.deref-6.ensures.value) at c.in_ok-watch.ensures.pair in

@@ -1,8 +1,8 @@
 use Rattle.std.proofs.lemmas.Result.{err_from_is_err_and}
 use Rattle.std.proofs.Common.{◌≡◌, ◌≢◌, ◌+◌, Some, [], get_or, inl, inr, true, sym, ◌∙◌, ap, subst, arith}
 use Rattle.ql_cnf.specs.declared.lit.Lit.{Lit}
-use Rattle.ql_refute.specs.Marks.{marked}
-use Rattle.ql_refute.specs.Partial.{Partial, is_open}
+use Rattle.ql_refute.specs.Marks.{assignment_of_marks}
+use Rattle.ql_refute.specs.Partial.{Partial, is_not_false}
 use Rattle.ql_refute.specs.Verdict.{hinted}
 use Rattle.ql_refute.specs.declared.marks.Reading.{Reading}
 use Rattle.ql_sat.specs.Settled.{falsified_at}
@@ -22,7 +22,7 @@ pub returns-in_ok-change-in-Move-clause-visited : goal.returns-in_ok-change-in-M
 returns-in_ok-change-in-Move-clause-visited c =
     let moved = c.in_ok-change-in-Move.ensures.moved in
     λ place h. visiting_move c.args.known.given.now (all_clauses c.args.known) c.args.known.lines.now c.args.trail.now.steps.items c.args.watches.now.lists.items c.change.new.self.lists.items c.args.watches.now.pairs.items c.change.new.self.pairs.items place c.args.watcher.at c.args.watcher.clause c.args.watcher.falsified c.in-Move.lit c.requires.sound.steps moved.size moved.front moved.counts moved.long moved.others moved.pair c.in-Move.ensures.away
-    (λ given. let look = (rw c.deref.ensures.value at c.in-Move.ensures.look) (get_or (all_clauses c.args.known).clauses c.args.watcher.clause []) (c.requires.hint given) in (look.0, subst (λ (p : Partial). is_open p c.in-Move.lit ≡ true) c.requires.sound.values look.1, subst (λ (x : Lit). c.in-Move.lit ≢ x) (c.other-other.ensures (omega (arith, given, h.guarded.counted))) look.2)) h
+    (λ given. let look = (rw c.deref.ensures.value at c.in-Move.ensures.look) (get_or (all_clauses c.args.known).clauses c.args.watcher.clause []) (c.requires.hint given) in (look.0, subst (λ (p : Partial). is_not_false p c.in-Move.lit ≡ true) c.requires.sound.values look.1, subst (λ (x : Lit). c.in-Move.lit ≢ x) (c.other-other.ensures (omega (arith, given, h.guarded.counted))) look.2)) h
 
 pub returns-in_default : goal.returns-in_default
 returns-in_default c =
@@ -32,9 +32,9 @@ returns-in_default c =
       visited = λ place h. visiting_true c.args.known.given.now (all_clauses c.args.known) c.args.known.lines.now c.propagate_clause.new.trail.steps.items c.args.watches.now.lists.items c.args.watches.now.pairs.items place c.args.watcher.at c.args.watcher.clause c.args.watcher.falsified c.other-other.result read.sound.steps c.requires.there c.other-other.ensures
           (λ given.
           let named : hinted c.args.known.given.now c.args.known.lines.now c.args.watcher.hint ≡ Some (get_or (all_clauses c.args.known).clauses c.args.watcher.clause []) = c.requires.hint given in
-          let closed : IsFalse (marked c.args.trail.now.marks.items) c.args.watcher.falsified = subst (λ (x : Lit). IsFalse (marked c.args.trail.now.marks.items) x) (sym h.literal) (subst (λ (p : Partial). IsFalse p (falsified_at c.args.trail.now.steps.items place)) (sym c.requires.sound.values) (falsified_false c.args.known.given.now c.args.known.lines.now c.args.trail.now.steps.items place c.requires.sound.steps h.within)) in
+          let closed : IsFalse (assignment_of_marks c.args.trail.now.marks.items) c.args.watcher.falsified = subst (λ (x : Lit). IsFalse (assignment_of_marks c.args.trail.now.marks.items) x) (sym h.literal) (subst (λ (p : Partial). IsFalse p (falsified_at c.args.trail.now.steps.items place)) (sym c.requires.sound.values) (falsified_false c.args.known.given.now c.args.known.lines.now c.args.trail.now.steps.items place c.requires.sound.steps h.within)) in
           let look = (rw c.deref.ensures.value at c.in-Read.ensures.look) (get_or (all_clauses c.args.known).clauses c.args.watcher.clause []) named in
-          elim (says (marked c.args.trail.now.marks.items) (get_or (all_clauses c.args.known).clauses c.args.watcher.clause []) c.args.watcher.falsified c.other-other.result (h.guarded.ascending c.args.watcher.clause given) closed look) [
+          elim (says (assignment_of_marks c.args.trail.now.marks.items) (get_or (all_clauses c.args.known).clauses c.args.watcher.clause []) c.args.watcher.falsified c.other-other.result (h.guarded.ascending c.args.watcher.clause given) closed look) [
             | inl e ↦ absurd (c.in_default.not-Conflict (read.visit (get_or (all_clauses c.args.known).clauses c.args.watcher.clause []) named ∙ ap (λ (r : Reading). visit_of r) e))
             | inr e ↦ ap (λ (p : Partial). p c.other-other.result.var) (sym read.sound.values) ∙ read.forced (get_or (all_clauses c.args.known).clauses c.args.watcher.clause []) c.other-other.result named e
           ])

@@ -3,11 +3,11 @@ use Rattle.ql_exec.specs.declared.effect.Draft.{Draft}
 use Rattle.ql_exec.specs.declared.effect.Effect.{Effect}
 use Rattle.ql_exec.specs.declared.fault.ExecFault.{ExecFault}
 use Rattle.ql_exec.specs.declared.fault.ExecFault.TheVariants.{NotForward, OtherObject, SplitTxn}
-use Rattle.ql_exec.specs.Execution.{IsPushAnswer, fault_of}
+use Rattle.ql_exec.specs.Execution.{IsPushAnswer, draft_fault}
 use Rattle.ql_store.proofs.plain.push_lawful.Goals as goal
 
 -- a draft without a fault isn't refused
-no-fault : (x : List Effect) (draft : Draft) (fault : ExecFault) → fault_of x draft ≡ None → fault_of x draft ≡ Some fault → ⊥
+no-fault : (x : List Effect) (draft : Draft) (fault : ExecFault) → draft_fault x draft ≡ None → draft_fault x draft ≡ Some fault → ⊥
 no-fault x draft fault none some = cc
 
 pub unreachable-requires : goal.unreachable-requires

@@ -3,7 +3,7 @@ use Rattle.ql_base.specs.Bytes.{StopsBefore, is_digit}
 use Rattle.ql_value.specs.declared.value.Value.{Value}
 use Rattle.ql_value.specs.declared.fault.ValueFault.{ValueFault}
 use Rattle.ql_value.specs.declared.fault.ValueFault.TheVariants.{Unexpected, NoMemory}
-use Rattle.ql_value.specs.Reading.{IsRead, Read, value_at}
+use Rattle.ql_value.specs.Reading.{IsReadValue, Read, value_at}
 use Rattle.ql_value.specs.ValueGrammar.{IsValue, IsValueRead, ReadsValue}
 use Rattle.ql_value.proofs.ValueLaws.{value_again, value_takes}
 use Rattle.ql_value.proofs.ValueLimits.{value_fits}
@@ -13,7 +13,7 @@ none_at_fault : (text : List ℕ) (left : ℕ) → value_at text ≡ Err left �
 none_at_fault text left fault v rest fits stop reads =
     let both : ◌≡◌ {A = Read Value} (Ok (v, rest)) (Err left) = sym (value_again v text rest fits stop reads) ∙ fault in absurd cc
 
-is_spelled : (bytes : List ℕ) (at : ℕ) (r : Result (Value × ℕ) ValueFault) → IsRead value_at bytes at r → IsValueRead bytes at r
+is_spelled : (bytes : List ℕ) (at : ℕ) (r : Result (Value × ℕ) ValueFault) → IsReadValue value_at bytes at r → IsValueRead bytes at r
 is_spelled bytes at (Ok x) h = (value_fits (drop at bytes) (drop x.1 bytes) x.0 h.1, value_takes (drop at bytes) (drop x.1 bytes) x.0 h.1)
 is_spelled bytes at (Err NoMemory) h = tt
 is_spelled bytes at (Err (Unexpected place)) h = none_at_fault (drop at bytes) (length bytes - place) h.1

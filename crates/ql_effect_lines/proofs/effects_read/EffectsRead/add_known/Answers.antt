@@ -6,7 +6,7 @@ use Rattle.ql_lines.specs.Answers.{IsLineAnswer}
 use Rattle.ql_effect_lines.specs.declared.effects_read.EffectsRead.{EffectsRead}
 use Rattle.ql_effect_lines.specs.declared.rules.ReportRule.{ReportRule}
 use Rattle.ql_effect_lines.specs.declared.rules.ReportRule.TheVariants.{Mixed}
-use Rattle.ql_effect_lines.specs.Effects.{after_known, draft_of_line, is_mixed, object_number, with_draft, with_object_name, with_state}
+use Rattle.ql_effect_lines.specs.Effects.{after_known, draft_of_line, is_mixed, object_number, with_draft, with_object_name, with_effects_read}
 use Rattle.ql_effect_lines.proofs.effects_read.EffectsRead.add_known.Goals as goal
 
 -- what is made of an object that is not mixed
@@ -26,4 +26,4 @@ returns c =
     let after : with_draft c.number_object.new.self c.draft.result stamp ≡ after_known p read line c.args.op c.args.member =
     ap (λ (r : EffectsRead). with_draft r c.draft.result stamp) c.in_ok-object.ensures.named ∙ ap (λ (d : Draft). with_draft named d stamp) c.draft.ensures
     ∙ unmixed (is_mixed p read.effects number c.args.op) number c.in_ok-object.object (λ o. with_draft named (draft_of_line line o c.args.op c.args.member) stamp) c.in_ok-object.ensures.numbered in
-    subst (λ (y : Result EffectsRead ReportRule). IsLineAnswer (λ x. y ≡ x) (with_state c.push.new.self c.push.result)) after c.push.ensures
+    subst (λ (y : Result EffectsRead ReportRule). IsLineAnswer (λ x. y ≡ x) (with_effects_read c.push.new.self c.push.result)) after c.push.ensures

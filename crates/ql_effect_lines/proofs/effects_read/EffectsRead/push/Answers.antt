@@ -4,7 +4,7 @@ use Rattle.std.proofs.lemmas.Option.{same_Some}
 use Rattle.ql_exec.specs.declared.effect.Draft.{Draft}
 use Rattle.ql_exec.specs.declared.effect.Effect.{Effect}
 use Rattle.ql_exec.specs.Effects.{effect_at}
-use Rattle.ql_exec.specs.Execution.{effect_of, fault_of, stamp_of}
+use Rattle.ql_exec.specs.Execution.{effect_of, draft_fault, stamp_of}
 use Rattle.ql_exec.proofs.Finding.{effect_at-last}
 use Rattle.ql_effect_lines.specs.declared.effects_read.EffectsRead.{EffectsRead}
 use Rattle.ql_effect_lines.specs.declared.rules.ReportRule.TheVariants.{Stamp, TooMany}
@@ -21,7 +21,7 @@ stamped x y d n e pushed count at =
     sym (ap (effect_at (x ++ effect_of x d ∷ [])) (one_longer x y (effect_of x d) n pushed count)) ∙ sym (ap (λ (z : List Effect). effect_at z n) pushed) ∙ at in
     ap (λ (f : Effect). f.stamp) (same_Some e (effect_of x d) (sym place ∙ effect_at-last x (effect_of x d)))
 
-module _ (read : EffectsRead) (d : Draft) (stamp : ℕ) (none : fault_of read.effects d ≡ None) where
+module _ (read : EffectsRead) (d : Draft) (stamp : ℕ) (none : draft_fault read.effects d ≡ None) where
   other_stamp : (stamp_of read.effects d.session d.seen ≡ stamp → ⊥) → with_draft read d stamp ≡ Err Stamp
   other_stamp other = rw (none, ne_eqb (stamp_of read.effects d.session d.seen) stamp other) refl
 

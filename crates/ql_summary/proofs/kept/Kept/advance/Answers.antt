@@ -4,7 +4,7 @@ use Rattle.ql_exec.specs.Execution.{IsOn}
 use Rattle.ql_exec.specs.Folding.{seen_in_order}
 use Rattle.ql_summary.specs.declared.kept.KeptObject.{KeptObject}
 use Rattle.ql_summary.specs.Covering.{ComeLater}
-use Rattle.ql_summary.specs.Keeping.{ids_of}
+use Rattle.ql_summary.specs.Keeping.{kept_ids_of}
 use Rattle.ql_summary.specs.Standing.{StandsFor}
 use Rattle.ql_summary.proofs.Advancing.{first_has, in_ops, of_first, kept_typed, more_own, on_there, put_elsewhere, put_here, same_number, stands_next, there}
 use Rattle.ql_summary.proofs.KeptStates.{forms_agree}
@@ -64,7 +64,7 @@ returns-clause-gained c =
     let kept = c.args.self.now in
     let o = c.args.o in
     let next = c.in_ok-one.one in
-    ap (λ (ks : List KeptObject). ids_of ks o) c.put.ensures ∙ ids_there (set kept o.0 next) o next (put_here kept o.0 next c.requires.in_range) ∙ c.in_ok-one.ensures.ids
+    ap (λ (ks : List KeptObject). kept_ids_of ks o) c.put.ensures ∙ ids_there (set kept o.0 next) o next (put_here kept o.0 next c.requires.in_range) ∙ c.in_ok-one.ensures.ids
     ∙ ap (λ (ids : List ℕ). union_of c.args.more.now ids) (sym (ids_there kept o c.on.result.now c.on.ensures))
 
 pub returns-clause-others : goal.returns-clause-others
