@@ -22,7 +22,7 @@ use Rattle.ql_implication.specs.Countermodels.{IsCounter, IsTxnCounter}
 use Rattle.ql_counter.specs.Coded.{IsLawfulOp, IsLawfulTxn}
 use Rattle.ql_counter.specs.declared.counter.Counter.{Counter}
 use Rattle.ql_counter.specs.Assigned.{op_current, op_execution, assigned_op_places, txn_current, txn_execution, txn_places}
-use Rattle.ql_counter.specs.Countermodels.{HasCounter, IsBuiltOfOp, IsBuiltOfTxn, IsCounterOf, IsSatisfiedBy, numbers}
+use Rattle.ql_counter.specs.Countermodels.{FailsGoal, HasCounter, IsBuiltOfOp, IsBuiltOfTxn, IsSatisfiedBy, numbers}
 use Rattle.ql_counter.proofs.OpCounters.{op-counter}
 use Rattle.ql_counter.proofs.TxnCounters.{txn-counter}
 
@@ -58,7 +58,7 @@ module _ (p : Program) where
 
   -- what is built of an assignment that satisfies the goal's problem
   pub op_built : (o : OpId) (level : Level) (f : Resolved) (a : List Bool) (result : Result Counter NoMemory) → slice_get (op_contracts p.types) o.0 ≡ Some f → IsOpContract (length (all_ops p.types)) f → o.0 < length (all_ops p.types) → IsSatisfiedBy p (OpAt o level) a
-      → IfOk result (IsBuiltOfOp a types f) → IfOk result (IsCounterOf p (OpAt o level))
+      → IfOk result (IsBuiltOfOp a types f) → IfOk result (FailsGoal p (OpAt o level))
   op_built o level f a (Err NoMemory) e contract known sat h = tt
   op_built o level f a (Ok c) e contract known sat h = (
     f,
@@ -70,7 +70,7 @@ module _ (p : Program) where
   )
 
   pub txn_built : (d : DeclId) (level : TxnLevel) (f : Resolved) (a : List Bool) (result : Result Counter NoMemory) → slice_get (txn_contracts p) d.0 ≡ Some f → IsTxnContract (length (all_ops p.types)) f → IsSatisfiedBy p (TxnAt d level) a
-      → IfOk result (IsBuiltOfTxn a types d f) → IfOk result (IsCounterOf p (TxnAt d level))
+      → IfOk result (IsBuiltOfTxn a types d f) → IfOk result (FailsGoal p (TxnAt d level))
   txn_built d level f a (Err NoMemory) e contract sat h = tt
   txn_built d level f a (Ok c) e contract sat h = (
     f,

@@ -3,20 +3,22 @@ use Rattle.std.proofs.Common.{◌≡◌, ◌<◌, ◌≤◌, ℕ, suc, Bool, Lis
 use Rattle.std.proofs.lemmas.Option.{slice_get-get_or}
 use Rattle.ql_base.specs.declared.ids.DeclId.{DeclId}
 use Rattle.ql_base.specs.declared.no_memory.NoMemory.{NoMemory}
-use Rattle.ql_atoms.specs.declared.atoms.PairKind.TheVariants.{SameObj}
+use Rattle.ql_atoms.specs.declared.atoms.PairKind.TheVariants.{SameObj, SameTxn}
 use Rattle.ql_lang.specs.Formulas.{Resolved}
 use Rattle.ql_lang.specs.declared.program.Program.{Program}
 use Rattle.ql_exec.specs.declared.effect.Effect.{Effect}
 use Rattle.ql_counter.specs.declared.slot.Part.{Part}
 use Rattle.ql_counter.specs.declared.slot.Part.TheVariants.{Opening, Aide, Own, Closing}
 use Rattle.ql_counter.specs.declared.slot.Slot.{Slot}
-use Rattle.ql_counter.specs.Patterns.{Pattern}
+use Rattle.ql_counter.specs.Patterns.{Pattern, one_session, session_of}
 use Rattle.ql_counter.specs.Built.{built, object_in}
 use Rattle.ql_counter.proofs.Building.{effect-is, slot_at}
 use Rattle.ql_counter.proofs.EqualConstants.{least-bound}
 use Rattle.ql_counter.specs.declared.counter.Counter.{Counter}
-use Rattle.ql_counter.specs.Assigned.{op_pattern, op_slots, txn_pattern, txn_slots}
-use Rattle.ql_counter.specs.Countermodels.{AreWithin, IsBuiltOfOp, IsBuiltOfTxn, IsDeclaredMember}
+use Rattle.ql_ground.specs.Ground.{txn_size}
+use Rattle.ql_counter.specs.Assigned.{op_pattern, op_slots, related_by, txn_pattern, txn_slots}
+use Rattle.ql_counter.specs.Countermodels.{AreWithin, FailsGoal, IsBuiltOfOp, IsBuiltOfTxn, IsCounterOf, IsDeclaredMember}
+use Rattle.ql_ground.specs.declared.goal.Goal.{Goal}
 
 -- an object is one of the constants', or the one after them
 object-within : (p : Pattern) (part : Part) (b : ℕ) → object_in p part b ≤ p.count
@@ -33,8 +35,18 @@ module _ (program : Program) where
       let same = effect-is p slots (suc k) e (slice_get-get_or x k d l) in
       let t = slot_at slots (suc k) in
       let object : e.object.0 ≡ object_in p t.part t.block = ap (λ (u : Effect). u.object.0) same.1 in
+      let session : e.session.0 ≡ session_of p t.block = ap (λ (u : Effect). u.session.0) same.1 in
       let member : e.member ≡ p.member t.block = ap (λ (u : Effect). u.member) same.1 in
-      (omega (arith, object, few, object-within p t.part t.block), subst (IsDeclaredMember program) (sym member) (declared t.block))
+      record {
+        object = omega (arith, object, few, object-within p t.part t.block);
+        session = omega (arith, session, few, least-bound p.count (λ i. one_session p i t.block));
+        member = subst (IsDeclaredMember program) (sym member) (declared t.block);
+        bare = record {
+          args = ap (λ (u : Effect). u.args) same.1;
+          answer = ap (λ (u : Effect). u.answer) same.1;
+          payload = ap (λ (u : Effect). u.payload) same.1;
+        };
+      }
 
   pub op_within : (a : List Bool) (types : List ℕ) (f : Resolved) (result : Result Counter NoMemory) → length f.vars ≤ 5 → IfOk result (IsBuiltOfOp a types f) → IfOk result (λ c. AreWithin program c.execution)
   op_within a types f (Err NoMemory) few h = tt
@@ -44,4 +56,10 @@ module _ (program : Program) where
   pub txn_within : (a : List Bool) (types : List ℕ) (name : DeclId) (f : Resolved) (result : Result Counter NoMemory) → length f.vars ≤ 5 → name.0 < length program.txns → IfOk result (IsBuiltOfTxn a types name f) → IfOk result (λ c. AreWithin program c.execution)
   txn_within a types name f (Err NoMemory) few known h = tt
   txn_within a types name f (Ok c) few known h =
-      subst (AreWithin program) (sym h.0) (built-within (txn_pattern a types name.0 f) (txn_slots a types name.0 f) (omega (arith, few)) (λ c. known))
+      subst (AreWithin program) (sym h.0) (built-within (txn_pattern a types name.0 f) (txn_slots a types name.0 f) (omega (arith, few))
+      (λ c. (omega arith, let low = least-bound (length f.vars) (λ k. related_by a (txn_size types f) SameTxn k c) in omega (arith, few, low), known)))
+
+-- both make a countermodel
+pub made_counter : (p : Program) (g : Goal) (result : Result Counter NoMemory) → IfOk result (FailsGoal p g) → IfOk result (λ c. AreWithin p c.execution) → IfOk result (IsCounterOf p g)
+made_counter p g (Err NoMemory) fails within = tt
+made_counter p g (Ok c) fails within = record { fails = fails; within = within }

@@ -1,5 +1,5 @@
 -- Countermodels of a program's goals.
-use Rattle.std.specs.Prelude.{ℕ, ◌≡◌, ◌<◌, Bool, List, Some, length, map, slice_get}
+use Rattle.std.specs.Prelude.{ℕ, ◌≡◌, ◌<◌, ◌≤◌, Bool, List, [], Some, length, map, slice_get}
 use Rattle.std.specs.List.{All}
 use Rattle.ql_base.specs.declared.ids.EffId.{EffId}
 use Rattle.ql_base.specs.declared.ids.RunId.{RunId}
@@ -14,6 +14,8 @@ use Rattle.ql_ground.specs.OfPrograms.{IsProblemOf}
 use Rattle.ql_exec.specs.declared.effect.Effect.{Effect}
 use Rattle.ql_exec.specs.declared.effect.Member.{Member}
 use Rattle.ql_exec.specs.declared.effect.Member.TheVariants.{Alone, Inside}
+use Rattle.ql_exec.specs.declared.effect.Payload.TheVariants.{Nothing}
+use Rattle.ql_value.specs.declared.value.Value.TheVariants as value
 use Rattle.ql_implication.specs.Countermodels.{IsCounter, IsTxnCounter}
 use Rattle.ql_counter.specs.declared.counter.Counter.{Counter}
 use Rattle.ql_counter.specs.declared.counter.At.TheVariants as at
@@ -34,30 +36,44 @@ HasCounter p (TxnAt d level) =
 abbrev pub numbers : List EffId → List ℕ
 numbers ids = map (λ (id : EffId). id.0) ids
 
--- it is a countermodel of the goal
-abbrev pub IsCounterOf : Program → Goal → Counter → Type 0
-IsCounterOf p (OpAt o level) c =
+-- the level's guarantee holds and the contract is false where it is said and with the effects that are said
+abbrev pub FailsGoal : Program → Goal → Counter → Type 0
+FailsGoal p (OpAt o level) c =
     (f : Resolved) × (slice_get (op_contracts p.types) o.0 ≡ Some f) × (cur : EffId) × (c.at ≡ at.Effect cur) × IsCounter (op_kinds p.types) o.0 level f c.execution cur.0 (numbers c.places)
-IsCounterOf p (TxnAt d level) c =
+FailsGoal p (TxnAt d level) c =
     (f : Resolved) × (slice_get (txn_contracts p) d.0 ≡ Some f) × (run : RunId) × (c.at ≡ at.Run run) × IsTxnCounter (op_kinds p.types) d.0 level f c.execution run.0 (numbers c.places)
 
--- ---- the objects and transactions that its effects name
+-- ---- the objects, sessions and transactions that its effects name
 
 -- the most objects: one for each constant, and one for chains of happens-before
 abbrev pub most_objects : ℕ
 most_objects = 7
 
--- outside transactions, or in one with a name that the program declares
+-- outside transactions, or in one of a small number, with a name that the program declares
 abbrev pub IsDeclaredMember : Program → Member → Type 0
 IsDeclaredMember p Alone = Unit {0}
-IsDeclaredMember p (Inside run name) = name.0 < length p.txns
+IsDeclaredMember p (Inside run name) = (1 ≤ run.0) × (run.0 ≤ most_objects) × (name.0 < length p.txns)
 
-abbrev pub IsWithin : Program → Effect → Type 0
-IsWithin p e = (e.object.0 < most_objects) × IsDeclaredMember p e.member
+-- without arguments, answer and payload
+pub record IsBare (e : Effect) : Type 0 where
+  pub args : e.args ≡ []
+  pub answer : e.answer ≡ value.Unit
+  pub payload : e.payload ≡ Nothing
 
--- objects are numbered from 0, and transactions are the program's
+pub record IsWithin (p : Program) (e : Effect) : Type 0 where
+  pub object : e.object.0 < most_objects
+  pub session : e.session.0 < most_objects
+  pub member : IsDeclaredMember p e.member
+  pub bare : IsBare e
+
+-- objects and sessions are numbered from 0, transactions from 1 and under the program's names
 abbrev pub AreWithin : Program → List Effect → Type 0
 AreWithin p x = All (IsWithin p) x
+
+-- it is a countermodel of the goal
+pub record IsCounterOf (p : Program) (g : Goal) (c : Counter) : Type 0 where
+  pub fails : FailsGoal p g c
+  pub within : AreWithin p c.execution
 
 -- ---- what is built from an assignment
 abbrev pub IsBuiltOfOp : List Bool → List ℕ → Resolved → Counter → Type 0

@@ -2,7 +2,7 @@ ghost use Rattle.std.specs.Prelude.{◌≡◌, ◌≤◌, ℕ, List, length, IfO
 ghost use Rattle.ql_lang.specs.Formulas.{resolved_of};
 ghost use Rattle.ql_ground.specs.OfPrograms.{IsGoalOf};
 ghost use Rattle.ql_counter.specs.Coded.{IsLawfulOp, IsLawfulTxn};
-ghost use Rattle.ql_counter.specs.Countermodels.{AreWithin, IsBuiltOfOp, IsBuiltOfTxn, IsCounterOf, IsSatisfiedBy};
+ghost use Rattle.ql_counter.specs.Countermodels.{IsBuiltOfOp, IsBuiltOfTxn, IsCounterOf, IsSatisfiedBy};
 
 use crate::blocks::slots;
 use crate::classes::{Likeness, class};
@@ -21,12 +21,12 @@ use ql_typing::Typed;
 use std::alloc::Global;
 
 /// The countermodel of an assignment that satisfies the ground problem of a goal: an execution of the program, of at most
-/// 24 effects, in which the level's formula holds and the contract is false.
+/// 24 effects, in which the level's formula holds and the contract is false. Its effects carry no values, and are on the
+/// first few objects, in the first few sessions and in transactions that the program declares.
 pub fn countermodel(alloc: Global, t: &Typed, g: Goal, a: &Assignment) -> Result<Counter, NoMemory>
     requires goal { IsGoalOf t.now.program g }
     requires satisfied { IsSatisfiedBy t.now.program g a.now }
-    ensures counter { IfOk result (IsCounterOf t.now.program g) }
-    ensures within { IfOk result (λ c. AreWithin t.now.program c.execution) }
+    ensures { IfOk result (IsCounterOf t.now.program g) }
 {
     match g {
         Goal::OpAt(o, _) => of_operation(alloc, t.op_formula(o), t.ops(), a.items()),

@@ -8,7 +8,7 @@ use Rattle.ql_classify.specs.declared.finding.Finding.{Finding}
 use Rattle.ql_classify.specs.declared.finding.Finding.TheVariants.{Least, NoLevel}
 use Rattle.ql_classify.specs.declared.finding.Unmet.{Unmet}
 use Rattle.ql_reply.specs.declared.status.Status.{Status}
-use Rattle.ql_counter.specs.Countermodels.{AreWithin, IsCounterOf, numbers}
+use Rattle.ql_counter.specs.Countermodels.{IsCounterOf, numbers}
 use Rattle.ql_counter.specs.declared.counter.At.{At}
 use Rattle.ql_counter.specs.declared.counter.At.TheVariants as at
 use Rattle.ql_counter.specs.declared.counter.Counter.{Counter}
@@ -173,9 +173,9 @@ ExplainJsonSays bytes status text = SaysBy IsJsonExplanation bytes status text
 
 -- ---- parts of it
 
--- a countermodel of the goal, whose effects can be printed
+-- a countermodel of the goal
 abbrev pub IsShownOf : Program → Goal → Shown → Type 0
-IsShownOf p g shown = (shown.goal ≡ g) × IsCounterOf p shown.goal shown.counter × AreWithin p shown.counter.execution
+IsShownOf p g shown = (shown.goal ≡ g) × IsCounterOf p shown.goal shown.counter
 
 abbrev pub IsShown : Program → Option Unmet → Option Shown → Type 0
 IsShown p None shown = shown ≡ None

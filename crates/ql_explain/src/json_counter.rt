@@ -3,7 +3,7 @@ ghost use Rattle.std.specs.Prelude.{◌≡◌, ◌++◌, ℕ, IfOk, OnOk, codes,
 ghost use Rattle.serde_json.specs.Data.{put as with_member};
 ghost use Rattle.serde_json.specs.View.{members_view, view};
 ghost use Rattle.ql_classify.specs.Finding.{IsFinding, IsUnmet};
-ghost use Rattle.ql_counter.specs.Countermodels.{AreWithin, IsCounterOf, numbers};
+ghost use Rattle.ql_counter.specs.Countermodels.{IsCounterOf, numbers};
 ghost use Rattle.ql_warnings.specs.Warnings.{AreFindings};
 ghost use Rattle.ql_explanation.specs.Explanation.{unmet_of};
 ghost use Rattle.ql_ground.specs.OfPrograms.{IsGoalOf};
@@ -74,7 +74,6 @@ pub(crate) fn shown_value(
     requires findings { AreFindings t.now.program findings.now }
     requires goal { IsGoalOf t.now.program shown.now.goal }
     requires counter { IsCounterOf t.now.program shown.now.goal shown.now.counter }
-    requires within { AreWithin t.now.program shown.now.counter.execution }
     ensures { IfOk result (λ json. IsCounterData t.now.program shown.now.goal (view json)) }
 {
     let facts = reasons(alloc, formula_of(t, shown.goal), &shown.counter)?;

@@ -11,6 +11,7 @@ mod Numbers
 pub mod Renumbering
 mod ExecutionAgain
 mod RunAgain
+mod BlockAgain
 pub mod Reported
 mod Lists
 mod Distinct

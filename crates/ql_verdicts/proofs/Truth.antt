@@ -79,6 +79,12 @@ module _ (number : ℕ → ℕ) (x : List Effect) where
   chosen-before (choice ∷ vars) [] h = absurd h
   chosen-before (choice ∷ vars) (p ∷ places) h = (sym (range-same choice p) ∙ h.0, chosen-before vars places h.1)
 
+  pub chosen-too : (vars : List OpChoice) (places : List ℕ) → Chosen x vars places → Chosen (others number x) vars places
+  chosen-too [] [] h = tt
+  chosen-too [] (p ∷ places) h = absurd h
+  chosen-too (choice ∷ vars) [] h = absurd h
+  chosen-too (choice ∷ vars) (p ∷ places) h = (range-same choice p ∙ h.0, chosen-too vars places h.1)
+
   -- ---- bodies
 
   together-same : (place : Term → ℕ) (ts : List Term) → together (others number x) place ts ≡ together x place ts
@@ -115,7 +121,7 @@ module _ (number : ℕ → ℕ) (x : List Effect) where
     related-same (Union r s) a b = ap (λ (t : Bool). t || related (others number x) s a b) (related-same r a b) ∙ ap (λ (t : Bool). related x r a b || t) (related-same s a b)
     related-same (Intersection r s) a b = ap (λ (t : Bool). t && related (others number x) s a b) (related-same r a b) ∙ ap (λ (t : Bool). related x r a b && t) (related-same s a b)
 
-    body-same : (current : ℕ → Bool) (places : List ℕ) (cur : ℕ) (s : Statement) → statement_true (others number x) current places cur s ≡ statement_true x current places cur s
+    pub body-same : (current : ℕ → Bool) (places : List ℕ) (cur : ℕ) (s : Statement) → statement_true (others number x) current places cur s ≡ statement_true x current places cur s
     body-same current places cur Always = refl
     body-same current places cur (Related r t u) = related-same r (place_of places cur t) (place_of places cur u)
     body-same current places cur (BothOf p q) =

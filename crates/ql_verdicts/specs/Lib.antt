@@ -1,5 +1,6 @@
 pub mod Agreement
 pub mod Renumbered
+pub mod Blocks
 pub mod Printable
 pub mod Commands
 pub mod Uses

@@ -3,11 +3,13 @@
 // of the program; and the text that `run` prints is read again as its execution, and `verify` never denies it.
 #![tactic(auto)]
 
+mod blocks;
 mod commands;
 mod law;
 mod printed_runs;
 mod uses;
 
+pub use blocks::{countermodels_are_read_again, countermodels_can_be_printed};
 pub use commands::{accepted_lines_give_contracts, reported_levels_are_least};
 pub use law::{
     object_numbers_are_names, printed_runs_hold, replicas_of_runs_agree, runs_can_be_printed,

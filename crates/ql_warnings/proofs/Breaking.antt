@@ -15,7 +15,7 @@ use Rattle.ql_ground.specs.declared.goal.Goal.TheVariants.{OpAt, TxnAt}
 use Rattle.ql_ground.proofs.Typing.{count_types}
 use Rattle.ql_implication.specs.Executions.{FitsProgram}
 use Rattle.ql_counter.specs.declared.counter.Counter.{Counter}
-use Rattle.ql_counter.specs.Countermodels.{IsCounterOf}
+use Rattle.ql_counter.specs.Countermodels.{FailsGoal, IsCounterOf}
 use Rattle.ql_classify.specs.Finding.{IsFinding}
 use Rattle.ql_classify.specs.Targets.{IsOpLevel}
 use Rattle.ql_classify.specs.declared.finding.Finding.{Finding}
@@ -23,13 +23,19 @@ use Rattle.ql_classify.specs.declared.finding.Finding.TheVariants.{Least, NoLeve
 use Rattle.ql_warnings.specs.Warnings.{BreaksOther, HasLevel}
 
 module _ (p : Program) where
+  fails-fits : (g : Goal) (c : Counter) → FailsGoal p g c → FitsProgram (op_kinds p.types) c.execution
+  fails-fits (OpAt o level) c (f, e, cur, at, is) = is.fits
+  fails-fits (TxnAt d level) c (f, e, run, at, is) = is.fits
+
+  fails-lawful : (g : Goal) (c : Counter) → FailsGoal p g c → IsExecution c.execution
+  fails-lawful (OpAt o level) c (f, e, cur, at, is) = is.lawful
+  fails-lawful (TxnAt d level) c (f, e, run, at, is) = is.lawful
+
   pub fits : (g : Goal) (c : Counter) → IsCounterOf p g c → FitsProgram (op_kinds p.types) c.execution
-  fits (OpAt o level) c (f, e, cur, at, is) = is.fits
-  fits (TxnAt d level) c (f, e, run, at, is) = is.fits
+  fits g c is = fails-fits g c is.fails
 
   lawful : (g : Goal) (c : Counter) → IsCounterOf p g c → IsExecution c.execution
-  lawful (OpAt o level) c (f, e, cur, at, is) = is.lawful
-  lawful (TxnAt d level) c (f, e, run, at, is) = is.lawful
+  lawful g c is = fails-lawful g c is.fails
 
   -- the operation of an effect is the program's
   pub op_known : (g : Goal) (c : Counter) (at : ℕ) (e : Effect) → IsCounterOf p g c → effect_at c.execution at ≡ Some e → e.op.0 < length (all_ops p.types)

@@ -1,6 +1,6 @@
 // The text of a countermodel: where its contract fails and at which effects, and then its execution.
 ghost use Rattle.std.specs.Prelude.{◌≡◌, ◌++◌, OnOk, OnErr};
-ghost use Rattle.ql_counter.specs.Countermodels.{AreWithin, IsCounterOf, IsSatisfiedBy};
+ghost use Rattle.ql_counter.specs.Countermodels.{IsCounterOf, IsSatisfiedBy};
 ghost use Rattle.ql_ground.specs.OfPrograms.{IsGoalOf};
 ghost use Rattle.ql_report.specs.EffectTexts.{AreNamed, execution_text};
 ghost use Rattle.ql_why.specs.Why.{Appended, IsCounterText, at_text, counter_text, block_heading, level_text, object_names, vars_of};
@@ -44,7 +44,6 @@ pub fn push_counter(
 ) -> Result<(), NoMemory>
     requires goal { IsGoalOf t.now.program g }
     requires counter { IsCounterOf t.now.program g c.now }
-    requires within { AreWithin t.now.program c.now.execution }
     ensures ok { OnOk result (out.new.items ≡ out.old.items ++ counter_text t.now.program g c.now) }
     ensures err { OnErr result (out.new.items ≡ out.old.items) }
 {

@@ -6,46 +6,34 @@ use Rattle.ql_ground.specs.declared.goal.Goal.{Goal}
 use Rattle.ql_ground.proofs.Typing.{count_types}
 use Rattle.ql_counter.specs.Countermodels.{IsBuiltOfOp, IsBuiltOfTxn, IsCounterOf, IsSatisfiedBy}
 use Rattle.ql_counter.proofs.Programs.{op_built, op_lawful, txn_built, txn_lawful}
-use Rattle.ql_counter.proofs.Within.{op_within, txn_within}
+use Rattle.ql_counter.proofs.Within.{made_counter, op_within, txn_within}
 use Rattle.ql_counter.proofs.construction.countermodel.Goals as goal
 
-pub returns-in-OpAt-clause-counter : goal.returns-in-OpAt-clause-counter
-returns-in-OpAt-clause-counter c =
+pub returns-in-OpAt : goal.returns-in-OpAt
+returns-in-OpAt c =
     let p = c.args.t.now.program in
     let types = op_kinds p.types in
     let f = resolved_of c.op_formula.result.now in
+    let o = c.in-OpAt.o in
     let built = subst (λ a. IfOk c.of_operation.result (IsBuiltOfOp a types f)) c.items.ensures (c.of_operation.ensures types (count_types p.types types refl ∙ sym c.ops.ensures.count)) in
     let known = subst (IsGoalOf p) c.in-OpAt.is c.requires.goal in
     let satisfied = subst (λ (g : Goal). IsSatisfiedBy p g c.args.a.now) c.in-OpAt.is c.requires.satisfied in
-    subst (λ (g : Goal). IfOk c.of_operation.result (IsCounterOf p g)) (sym c.in-OpAt.is)
-    (op_built p c.in-OpAt.o c.in-OpAt.field-1 f c.args.a.now c.of_operation.result c.op_formula.ensures.resolved c.op_formula.ensures.well_formed known satisfied built)
+    let fails = op_built p o c.in-OpAt.field-1 f c.args.a.now c.of_operation.result c.op_formula.ensures.resolved c.op_formula.ensures.well_formed known satisfied built in
+    let within = op_within p c.args.a.now types f c.of_operation.result c.op_formula.ensures.well_formed.few built in
+    subst (λ (g : Goal). IfOk c.of_operation.result (IsCounterOf p g)) (sym c.in-OpAt.is) (made_counter p _ c.of_operation.result fails within)
 
-pub returns-in-TxnAt-clause-counter : goal.returns-in-TxnAt-clause-counter
-returns-in-TxnAt-clause-counter c =
+pub returns-in-TxnAt : goal.returns-in-TxnAt
+returns-in-TxnAt c =
     let p = c.args.t.now.program in
     let types = op_kinds p.types in
     let f = resolved_of c.txn_formula.result.now in
-    let built = subst (λ a. IfOk c.of_transaction.result (IsBuiltOfTxn a types c.in-TxnAt.d f)) c.items-in-TxnAt.ensures (c.of_transaction.ensures types (count_types p.types types refl ∙ sym c.ops-in-TxnAt.ensures.count)) in
-    let satisfied = subst (λ (g : Goal). IsSatisfiedBy p g c.args.a.now) c.in-TxnAt.is c.requires.satisfied in
-    subst (λ (g : Goal). IfOk c.of_transaction.result (IsCounterOf p g)) (sym c.in-TxnAt.is)
-    (txn_built p c.in-TxnAt.d c.in-TxnAt.field-1 f c.args.a.now c.of_transaction.result c.txn_formula.ensures.resolved c.txn_formula.ensures.well_formed satisfied built)
-
-pub returns-in-OpAt-clause-within : goal.returns-in-OpAt-clause-within
-returns-in-OpAt-clause-within c =
-    let p = c.args.t.now.program in
-    let types = op_kinds p.types in
-    let f = resolved_of c.op_formula.result.now in
-    let built = subst (λ a. IfOk c.of_operation.result (IsBuiltOfOp a types f)) c.items.ensures (c.of_operation.ensures types (count_types p.types types refl ∙ sym c.ops.ensures.count)) in
-    op_within p c.args.a.now types f c.of_operation.result c.op_formula.ensures.well_formed.few built
-
-pub returns-in-TxnAt-clause-within : goal.returns-in-TxnAt-clause-within
-returns-in-TxnAt-clause-within c =
-    let p = c.args.t.now.program in
-    let types = op_kinds p.types in
-    let f = resolved_of c.txn_formula.result.now in
-    let built = subst (λ a. IfOk c.of_transaction.result (IsBuiltOfTxn a types c.in-TxnAt.d f)) c.items-in-TxnAt.ensures (c.of_transaction.ensures types (count_types p.types types refl ∙ sym c.ops-in-TxnAt.ensures.count)) in
+    let d = c.in-TxnAt.d in
+    let built = subst (λ a. IfOk c.of_transaction.result (IsBuiltOfTxn a types d f)) c.items-in-TxnAt.ensures (c.of_transaction.ensures types (count_types p.types types refl ∙ sym c.ops-in-TxnAt.ensures.count)) in
     let known = subst (IsGoalOf p) c.in-TxnAt.is c.requires.goal in
-    txn_within p c.args.a.now types c.in-TxnAt.d f c.of_transaction.result c.txn_formula.ensures.well_formed.few known built
+    let satisfied = subst (λ (g : Goal). IsSatisfiedBy p g c.args.a.now) c.in-TxnAt.is c.requires.satisfied in
+    let fails = txn_built p d c.in-TxnAt.field-1 f c.args.a.now c.of_transaction.result c.txn_formula.ensures.resolved c.txn_formula.ensures.well_formed satisfied built in
+    let within = txn_within p c.args.a.now types d f c.of_transaction.result c.txn_formula.ensures.well_formed.few known built in
+    subst (λ (g : Goal). IfOk c.of_transaction.result (IsCounterOf p g)) (sym c.in-TxnAt.is) (made_counter p _ c.of_transaction.result fails within)
 
 pub of_operation-requires-clause-lawful : goal.of_operation-requires-clause-lawful
 of_operation-requires-clause-lawful c =

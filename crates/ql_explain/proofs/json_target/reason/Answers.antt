@@ -12,10 +12,6 @@ pub shown_value-requires-clause-counter : goal.shown_value-requires-clause-count
 shown_value-requires-clause-counter c =
     (shown_known c.args.t.now.program c.args.finding.now c.requires.finding c.in-Some.shown (subst (IsShown c.args.t.now.program (unmet_of c.args.finding.now)) c.in-Some.is c.in_ok-shown.ensures)).1
 
-pub shown_value-requires-clause-within : goal.shown_value-requires-clause-within
-shown_value-requires-clause-within c =
-    (shown_known c.args.t.now.program c.args.finding.now c.requires.finding c.in-Some.shown (subst (IsShown c.args.t.now.program (unmet_of c.args.finding.now)) c.in-Some.is c.in_ok-shown.ensures)).2
-
 pub returns-in-Some : goal.returns-in-Some
 returns-in-Some c =
     reason_made c.args.t.now.program (unmet_of c.args.finding.now) c.in-Some.shown c.shown_value.result (subst (IsShown c.args.t.now.program (unmet_of c.args.finding.now)) c.in-Some.is c.in_ok-shown.ensures) c.shown_value.ensures

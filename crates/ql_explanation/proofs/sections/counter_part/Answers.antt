@@ -10,12 +10,12 @@ use Rattle.ql_explanation.proofs.sections.counter_part.Goals as goal
 
 pub counter_words-requires-clause-named : goal.counter_words-requires-clause-named
 counter_words-requires-clause-named c =
-    named c.args.t.now.program c.args.unmet.now.goal c.in_ok-counter.counter c.in_ok-counter.ensures.counter c.in_ok-counter.ensures.within
+    named c.args.t.now.program c.args.unmet.now.goal c.in_ok-counter.counter c.in_ok-counter.ensures
 
 pub returns : goal.returns
 returns c = (
   c.in_ok-counter.counter,
-  c.in_ok-counter.ensures.counter,
+  c.in_ok-counter.ensures,
   c.in_ok-text.text.items,
   c.deref.result.now,
   subst (All (IsRuledOut c.args.t.now.program c.args.unmet.now.goal c.in_ok-counter.counter)) (sym c.deref.ensures.value) c.in_ok-warned.ensures,
