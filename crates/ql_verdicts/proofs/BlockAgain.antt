@@ -1,9 +1,10 @@
 -- A printed countermodel is read as its execution, in which its goal fails as it is said.
-use Rattle.std.proofs.Common.{◌≡◌, ℕ, suc, ◌+◌, ◌<◌, ◌≤◌, Bool, false, List, [], ◌∷◌, Option, Some, None, get_or, length, slice_index, refl, ap, sym, subst, arith, ◌∙◌}
+use Rattle.std.proofs.Common.{◌≡◌, ℕ, suc, ◌+◌, ◌<◌, ◌≤◌, Bool, false, List, [], ◌∷◌, Option, Some, None, codes, get_or, length, slice_index, refl, ap, sym, subst, arith, ◌∙◌}
 use Rattle.std.specs.List.{All}
 use Rattle.std.specs.Option.{option_map}
 use Rattle.std.proofs.lemmas.List.{length-map}
 use Rattle.std.proofs.lemmas.List.Elements.{recursion_from_All}
+use Rattle.std.proofs.lemmas.List.Sums.{AllPass-from_list_all}
 use Rattle.std.proofs.lemmas.Option.{slice_get-get_or}
 use Rattle.ql_base.specs.Bytes.{is_lower, is_name_byte}
 use Rattle.ql_base.specs.Names.{IsName, is_keyword, keywords}
@@ -52,13 +53,13 @@ use Rattle.ql_verdicts.proofs.Truth.{body-same, chosen-too, holds-too, holds-txn
 
 names-named : (o : ℕ) → o < 7 → IsName (object_name object_names o)
 unfolding is_keyword keywords is_lower is_name_byte
-names-named 0 l = record { shape = record { some = omega arith; first = refl; all = name_bytes_pass }; short = omega arith; free = refl }
-names-named 1 l = record { shape = record { some = omega arith; first = refl; all = name_bytes_pass }; short = omega arith; free = refl }
-names-named 2 l = record { shape = record { some = omega arith; first = refl; all = name_bytes_pass }; short = omega arith; free = refl }
-names-named 3 l = record { shape = record { some = omega arith; first = refl; all = name_bytes_pass }; short = omega arith; free = refl }
-names-named 4 l = record { shape = record { some = omega arith; first = refl; all = name_bytes_pass }; short = omega arith; free = refl }
-names-named 5 l = record { shape = record { some = omega arith; first = refl; all = name_bytes_pass }; short = omega arith; free = refl }
-names-named 6 l = record { shape = record { some = omega arith; first = refl; all = name_bytes_pass }; short = omega arith; free = refl }
+names-named 0 l = record { shape = record { some = omega arith; first = refl; all = AllPass-from_list_all is_name_byte (codes "o0") refl }; short = omega arith; free = refl }
+names-named 1 l = record { shape = record { some = omega arith; first = refl; all = AllPass-from_list_all is_name_byte (codes "o1") refl }; short = omega arith; free = refl }
+names-named 2 l = record { shape = record { some = omega arith; first = refl; all = AllPass-from_list_all is_name_byte (codes "o2") refl }; short = omega arith; free = refl }
+names-named 3 l = record { shape = record { some = omega arith; first = refl; all = AllPass-from_list_all is_name_byte (codes "o3") refl }; short = omega arith; free = refl }
+names-named 4 l = record { shape = record { some = omega arith; first = refl; all = AllPass-from_list_all is_name_byte (codes "o4") refl }; short = omega arith; free = refl }
+names-named 5 l = record { shape = record { some = omega arith; first = refl; all = AllPass-from_list_all is_name_byte (codes "o5") refl }; short = omega arith; free = refl }
+names-named 6 l = record { shape = record { some = omega arith; first = refl; all = AllPass-from_list_all is_name_byte (codes "o6") refl }; short = omega arith; free = refl }
 names-named (suc (suc (suc (suc (suc (suc (suc o))))))) l = absurd (omega (arith, l))
 
 -- the second byte tells them apart

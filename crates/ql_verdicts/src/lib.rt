@@ -9,7 +9,9 @@ mod law;
 mod printed_runs;
 mod uses;
 
-pub use blocks::{countermodels_are_read_again, countermodels_can_be_printed};
+pub use blocks::{
+    countermodels_are_denied, countermodels_are_read_again, countermodels_can_be_printed,
+};
 pub use commands::{accepted_lines_give_contracts, reported_levels_are_least};
 pub use law::{
     object_numbers_are_names, printed_runs_hold, replicas_of_runs_agree, runs_can_be_printed,
