@@ -25,6 +25,12 @@ pub stored-end : (x : List Effect) → stored_after x [] ≡ x
 unfolding stored_after
 stored-end x = refl
 
+-- drafts after drafts
+pub stored-more : (x : List Effect) (drafts others : List Draft) → stored_after x (drafts ++ others) ≡ stored_after (stored_after x drafts) others
+stored-more x [] others = ap (λ (y : List Effect). stored_after y others) (sym (stored-end x))
+stored-more x (d ∷ drafts) others =
+    stored-step x d (drafts ++ others) ∙ stored-more (x ++ effect_of x d ∷ []) drafts others ∙ ap (λ (y : List Effect). stored_after y others) (sym (stored-step x d drafts))
+
 stored-old : (x : List Effect) (drafts : List Draft) (a : ℕ) → a ≤ length x → effect_at (stored_after x drafts) a ≡ effect_at x a
 stored-old x [] a l = ap (λ y. effect_at y a) (stored-end x)
 stored-old x (d ∷ drafts) a l =

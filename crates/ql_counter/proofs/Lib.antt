@@ -4,6 +4,7 @@ pub mod Circuits
 pub mod Fitting
 pub mod Choosing
 pub mod OpCounters
+pub mod Lone
 pub mod TxnCounters
 pub mod Loops
 pub mod Growing

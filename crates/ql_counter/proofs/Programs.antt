@@ -24,7 +24,7 @@ use Rattle.ql_counter.specs.declared.counter.Counter.{Counter}
 use Rattle.ql_counter.specs.Assigned.{op_current, op_execution, assigned_op_places, txn_current, txn_execution, txn_places}
 use Rattle.ql_counter.specs.Countermodels.{FailsGoal, HasCounter, IsBuiltOfOp, IsBuiltOfTxn, IsSatisfiedBy, numbers}
 use Rattle.ql_counter.proofs.OpCounters.{op-counter}
-use Rattle.ql_counter.proofs.TxnCounters.{txn-counter}
+use Rattle.ql_counter.proofs.TxnCounters.{some-constant, txn-counter}
 
 module _ (p : Program) where
   abbrev types : List ℕ
@@ -80,6 +80,10 @@ module _ (p : Program) where
     subst (λ x. IsTxnCounter types d.0 level f x (txn_current a types f) (numbers c.places)) (sym h.0)
         (subst (λ ids. IsTxnCounter types d.0 level f (txn_execution a types d.0 f) (txn_current a types f) ids) (sym h.2) (txn_counter d level f a e contract sat)),
   )
+
+  -- a transaction's contract has a variable, since it is false at some choice
+  pub txn_some : (d : DeclId) (level : TxnLevel) (f : Resolved) (a : List Bool) → slice_get (txn_contracts p) d.0 ≡ Some f → IsTxnContract (length (all_ops p.types)) f → IsSatisfiedBy p (TxnAt d level) a → 0 < length f.vars
+  txn_some d level f a e contract sat = some-constant types d.0 level f a (txn_types f contract) (txn_satisfied d level f a e sat)
 
   -- and it is an execution, whatever the number of operations is called
   pub op_lawful : (o : OpId) (level : Level) (f : Resolved) (a items : List Bool) (n : ℕ) → slice_get (op_contracts p.types) o.0 ≡ Some f → IsOpContract (length (all_ops p.types)) f → o.0 < length (all_ops p.types) → IsSatisfiedBy p (OpAt o level) a

@@ -136,7 +136,7 @@ module _ (p : Pattern) (law : IsLawful p) (current : ℕ → Bool) (name : DeclI
     own-part Aide b h = absurd (false≢true h)
     own-part Closing b h = absurd (false≢true h)
 
-    part-own : (a : ℕ) → There slots a → (at a).part ≡ Own
+    pub part-own : (a : ℕ) → There slots a → (at a).part ≡ Own
     part-own a i = own-part (at a).part (block a) (arranged.only a i)
 
     is-own : (a : ℕ) → There slots a → at a ≡ own (block a)

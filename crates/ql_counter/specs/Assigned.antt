@@ -1,5 +1,5 @@
 -- The relations between a problem's constants in an assignment, as a pattern, and the execution that is built from it.
-use Rattle.std.specs.Prelude.{ℕ, suc, Bool, true, false, ◌&&◌, ◌||◌, nat_lt, List, [], ◌∷◌, length}
+use Rattle.std.specs.Prelude.{ℕ, suc, Bool, true, false, ◌&&◌, ◌||◌, ◌==◌, if◌then◌else◌, nat_lt, List, [], ◌∷◌, ◌++◌, length}
 use Rattle.ql_base.specs.Ids.{op}
 use Rattle.ql_base.specs.Ranges.{upto}
 use Rattle.ql_atoms.specs.declared.atoms.Atom.TheVariants.{Pair, Current, Is}
@@ -12,14 +12,17 @@ use Rattle.ql_lang.specs.Formulas.{Statement, Always, Related, BothOf, OneOf, If
 use Rattle.ql_lang.specs.declared.relation.RelName.{RelName}
 use Rattle.ql_lang.specs.declared.relation.RelName.TheVariants.{Hb, Hbo}
 use Rattle.ql_ground.specs.Ground.{op_size, txn_size}
+use Rattle.ql_value.specs.declared.value.Value.TheVariants as value
+use Rattle.ql_exec.specs.declared.effect.Draft.{Draft}
 use Rattle.ql_exec.specs.declared.effect.Effect.{Effect}
 use Rattle.ql_exec.specs.declared.effect.Member.{Member}
 use Rattle.ql_exec.specs.declared.effect.Member.TheVariants.{Alone, Inside}
+use Rattle.ql_exec.specs.declared.effect.Payload.TheVariants.{Nothing}
 use Rattle.ql_counter.specs.declared.slot.Extra.{Extra}
 use Rattle.ql_counter.specs.declared.slot.Slot.{Slot}
 use Rattle.ql_counter.specs.Patterns.{Pattern, least, class_of}
 use Rattle.ql_counter.specs.Blocks.{no_parts, slots_of}
-use Rattle.ql_counter.specs.Built.{built, constant_place}
+use Rattle.ql_counter.specs.Built.{built, constant_place, drafts_of, stored_after}
 
 -- the relations of an assignment, only between constants within the size
 abbrev pub related_by : List Bool → Size → PairKind → ℕ → ℕ → Bool
@@ -99,12 +102,32 @@ txn_pattern a types d f = let s : Size = txn_size types f in pattern_of a s (beg
 abbrev pub txn_slots : List Bool → List ℕ → ℕ → Resolved → List Slot
 txn_slots a types d f = slots_of (txn_pattern a types d f) no_parts
 
+-- an effect on an object of no constant, in a session and in a transaction of none, that sees nothing
+abbrev pub lone_draft : Pattern → Draft
+lone_draft p = record {
+  object = record { 0 = p.count };
+  op = record { 0 = p.op 0 };
+  args = [];
+  payload = Nothing;
+  answer = value.Unit;
+  session = record { 0 = p.count };
+  member = p.member p.count;
+  seen = [];
+}
+
+-- one where no constant is current: it is in the current transaction
+abbrev pub lone_drafts : Pattern → (ℕ → Bool) → List Draft
+lone_drafts p current = if least p.count current == p.count then lone_draft p ∷ [] else []
+
+abbrev pub txn_drafts : List Bool → Size → ℕ → List Slot → List Draft
+txn_drafts a s d slots = let p : Pattern = pattern_of a s (begun_member a s d) in drafts_of p slots ++ lone_drafts p (current_by a s)
+
 abbrev pub txn_execution : List Bool → List ℕ → ℕ → Resolved → List Effect
-txn_execution a types d f = built (txn_pattern a types d f) (txn_slots a types d f)
+txn_execution a types d f = stored_after [] (txn_drafts a (txn_size types f) d (txn_slots a types d f))
 
 abbrev pub txn_places : List Bool → List ℕ → ℕ → Resolved → List ℕ
 txn_places a types d f = constant_places (txn_pattern a types d f) (txn_slots a types d f) (length f.vars)
 
--- the begun transaction of the first current constant; one without effects where none is current
+-- the begun transaction of the first current constant, or that of the lone effect
 abbrev pub txn_current : List Bool → List ℕ → Resolved → ℕ
 txn_current a types f = let s : Size = txn_size types f in run_by a s (least s.constants (current_by a s))

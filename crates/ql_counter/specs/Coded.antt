@@ -1,5 +1,5 @@
 -- What the functions that build an execution compute of an assignment.
-use Rattle.std.specs.Prelude.{ℕ, suc, length, Bool, true, not, ◌&&◌, List, Option, None, Some}
+use Rattle.std.specs.Prelude.{ℕ, suc, length, Bool, true, not, ◌&&◌, List, [], Option, None, Some}
 use Rattle.ql_base.specs.declared.ids.DeclId.{DeclId}
 use Rattle.ql_atoms.specs.declared.shapes.Shape.{Shape}
 use Rattle.ql_atoms.specs.declared.atoms.PairKind.TheVariants.{Eq, SameObj, Vis, Hbo, SameTxn}
@@ -11,10 +11,10 @@ use Rattle.ql_counter.specs.declared.slot.Part.{Part}
 use Rattle.ql_counter.specs.declared.slot.Part.TheVariants.{Opening, Aide, Own, Closing}
 use Rattle.ql_counter.specs.Patterns.{Pattern, one_session}
 use Rattle.ql_counter.specs.Blocks.{is_link, no_parts, slots_of}
-use Rattle.ql_counter.specs.Built.{built}
+use Rattle.ql_counter.specs.Built.{built, stored_after}
 use Rattle.ql_lang.specs.Formulas.{Resolved}
 use Rattle.ql_lang.specs.declared.relation.RelName.{RelName}
-use Rattle.ql_counter.specs.Assigned.{alone, begun_member, extra_of, is_hb, is_hbo, pattern_of}
+use Rattle.ql_counter.specs.Assigned.{alone, begun_member, extra_of, is_hb, is_hbo, pattern_of, txn_drafts}
 use Rattle.ql_counter.specs.declared.naming.Closure.{Closure}
 use Rattle.ql_counter.specs.declared.naming.Closure.TheVariants.{OnOneObject, Across}
 use Rattle.ql_counter.specs.declared.classes.Likeness.{Likeness}
@@ -58,4 +58,4 @@ abbrev pub IsLawfulTxn : List Bool → ℕ → ℕ → Resolved → Type 0
 IsLawfulTxn a operations d f =
     let s : Size = record { constants = length f.vars; operations = operations } in
     let p : Pattern = pattern_of a s (begun_member a s d) in
-    IsExecution (built p (slots_of p no_parts))
+    IsExecution (stored_after [] (txn_drafts a s d (slots_of p no_parts)))

@@ -1,4 +1,4 @@
-ghost use Rattle.std.specs.Prelude.{◌≡◌, ◌≤◌, ℕ, List, length, IfOk};
+ghost use Rattle.std.specs.Prelude.{◌≡◌, ◌<◌, ◌≤◌, ℕ, List, length, IfOk};
 ghost use Rattle.ql_lang.specs.Formulas.{resolved_of};
 ghost use Rattle.ql_ground.specs.OfPrograms.{IsGoalOf};
 ghost use Rattle.ql_counter.specs.Coded.{IsLawfulOp, IsLawfulTxn};
@@ -8,6 +8,7 @@ use crate::blocks::slots;
 use crate::classes::{Likeness, class};
 use crate::constants::first_current;
 use crate::counter::{At, Counter};
+use crate::drafts::{drafts, txn_drafts};
 use crate::execution::execution;
 use crate::naming::extra;
 use crate::places::{place, places};
@@ -54,14 +55,15 @@ fn of_operation(
     };
     let slots = slots(alloc, a, s, extra(&f.body))?;
     let places = places(alloc, a, s, &slots, vars)?;
+    let drafts = drafts(alloc, a, s, None, &slots)?;
     Ok(Counter {
-        execution: execution(alloc, a, s, None, &slots)?,
+        execution: execution(alloc, drafts)?,
         at: At::Effect(EffId(place(a, s, &slots, vars))),
         places,
     })
 }
 
-// For a transaction, each constant is in a begun one.
+// For a transaction, each constant is in a begun one. Where none is current, one more effect is alone in that.
 fn of_transaction(
     alloc: Global,
     f: &Formula,
@@ -69,6 +71,7 @@ fn of_transaction(
     name: DeclId,
     a: &[bool],
 ) -> Result<Counter, NoMemory>
+    requires some { 0 < length f.now.vars }
     requires vars { length f.now.vars ≤ 5 }
     requires few { operations ≤ 32 }
     requires lawful { IsLawfulTxn a.now operations name.0 (resolved_of f.now) }
@@ -86,9 +89,10 @@ fn of_transaction(
     };
     let slots = slots(alloc, a, s, own)?;
     let places = places(alloc, a, s, &slots, vars)?;
+    let drafts = txn_drafts(alloc, a, s, name, &slots)?;
     let run = class(a, s, Likeness::OneTxn, first_current(a, s)) + 1;
     Ok(Counter {
-        execution: execution(alloc, a, s, Some(name), &slots)?,
+        execution: execution(alloc, drafts)?,
         at: At::Run(RunId(run)),
         places,
     })

@@ -4,11 +4,12 @@ ghost use Rattle.std.specs.List.{All};
 ghost use Rattle.ql_base.specs.IdLists.{with_id};
 ghost use Rattle.ql_atoms.specs.Atoms.{size_of};
 ghost use Rattle.ql_counter.specs.Built.{draft_of, drafts_of, object_in, op_in, places_from, sees};
-ghost use Rattle.ql_counter.specs.Assigned.{pattern_of};
+ghost use Rattle.ql_counter.specs.Assigned.{begun_member, lone_draft, pattern_of};
+ghost use Rattle.ql_counter.specs.Assigned as assigned;
 ghost use Rattle.ql_counter.specs.Coded.{members_by, said};
 
 use crate::classes::{Likeness, class};
-use crate::constants::{operation, related};
+use crate::constants::{first_current, operation, related};
 use crate::slot::{Part, Slot};
 use ql_atoms::{PairKind, Shape};
 use ql_base::{DeclId, IdSet, NoMemory, ObjId, OpId, RunId, SessId};
@@ -36,6 +37,44 @@ pub(crate) fn drafts(
         drafts.push(draft(alloc, a, s, declared, slots, *slot)?)?;
     }
     Ok(drafts)
+}
+
+/// The drafts for a transaction's contract: where no constant is current, with one of an effect that is.
+pub(crate) fn txn_drafts(
+    alloc: Global,
+    a: &[bool],
+    s: Shape,
+    name: DeclId,
+    slots: &[Slot],
+) -> Result<Vec<Draft>, NoMemory>
+    requires some { 0 < s.constants }
+    requires blocks { All (λ t. t.block < s.constants) slots.now }
+    requires few { length slots.now < 2 ^ 32 }
+    ensures { IfOk result
+        (λ drafts. drafts.items ≡ assigned.txn_drafts a.now (size_of s) name.0 slots.now) }
+{
+    let mut drafts = drafts(alloc, a, s, Some(name), slots)?;
+    if first_current(a, s) == s.constants {
+        drafts.push(lone(alloc, a, s, name))?;
+    }
+    Ok(drafts)
+}
+
+// On an object of no constant, in a session and in a transaction of none, it sees nothing.
+fn lone(alloc: Global, a: &[bool], s: Shape, name: DeclId) -> Draft
+    requires { 0 < s.constants }
+    ensures { result ≡ lone_draft (pattern_of a.now (size_of s) (begun_member a.now (size_of s) name.0)) }
+{
+    Draft {
+        object: ObjId(s.constants),
+        op: OpId(operation(a, s, 0)),
+        args: Values::of(Vec::new(alloc)),
+        payload: Payload::Nothing,
+        answer: Value::Unit,
+        session: SessId(s.constants),
+        member: member(a, s, Some(name), s.constants),
+        seen: IdSet::new(alloc),
+    }
 }
 
 fn draft(

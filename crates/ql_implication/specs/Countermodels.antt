@@ -1,5 +1,5 @@
 -- Countermodels: executions in which a level's guarantee holds and the contract is false.
-use Rattle.std.specs.Prelude.{ℕ, ◌≡◌, ◌≤◌, false, List, Some, length}
+use Rattle.std.specs.Prelude.{ℕ, ◌≡◌, ◌≤◌, true, false, List, Some, length}
 use Rattle.ql_lang.specs.Formulas.{Resolved}
 use Rattle.ql_levels.specs.declared.level.Level.{Level}
 use Rattle.ql_levels.specs.declared.level.TxnLevel.{TxnLevel}
@@ -31,13 +31,18 @@ pub record IsCounter (types : List ℕ) (o : ℕ) (level : Level) (f : Resolved)
   pub chosen : Chosen x f.vars places
   pub broken : statement_true x none_inside places cur f.body ≡ false
 
--- An execution of the program with a begun transaction, whose effects, if any, are declared under d. The level's
--- formula holds of it and, with these effects for its variables, the contract's body is false.
+-- the begun transaction has an effect
+abbrev pub HasEffect : List Effect → ℕ → Type 0
+HasEffect x run = (a : ℕ) × (inside x run a ≡ true)
+
+-- An execution of the program with a begun transaction, whose effects, of which there is one, are declared under d. The
+-- level's formula holds of it and, with these effects for its variables, the contract's body is false.
 pub record IsTxnCounter (types : List ℕ) (d : ℕ) (level : TxnLevel) (f : Resolved) (x : List Effect) (run : ℕ) (places : List ℕ) : Type 0 where
   pub lawful : IsExecution x
   pub fits : FitsProgram types x
   pub few : length x ≤ most_countermodel_effects
   pub begun : 1 ≤ run
+  pub has_effect : HasEffect x run
   pub declared : (a : ℕ) (e : Effect) (number : RunId) (name : DeclId) → effect_at x a ≡ Some e → e.member ≡ Inside number name → number.0 ≡ run → name.0 ≡ d
   pub holds : HoldsTxn x (txn_formula_of level) run
   pub chosen : Chosen x f.vars places

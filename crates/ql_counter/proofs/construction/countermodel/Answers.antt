@@ -5,7 +5,7 @@ use Rattle.ql_ground.specs.OfPrograms.{IsGoalOf}
 use Rattle.ql_ground.specs.declared.goal.Goal.{Goal}
 use Rattle.ql_ground.proofs.Typing.{count_types}
 use Rattle.ql_counter.specs.Countermodels.{IsBuiltOfOp, IsBuiltOfTxn, IsCounterOf, IsSatisfiedBy}
-use Rattle.ql_counter.proofs.Programs.{op_built, op_lawful, txn_built, txn_lawful}
+use Rattle.ql_counter.proofs.Programs.{op_built, op_lawful, txn_built, txn_lawful, txn_some}
 use Rattle.ql_counter.proofs.Within.{made_counter, op_within, txn_within}
 use Rattle.ql_counter.proofs.construction.countermodel.Goals as goal
 
@@ -49,3 +49,10 @@ of_transaction-requires-clause-lawful c =
     let satisfied = subst (λ (g : Goal). IsSatisfiedBy p g c.args.a.now) c.in-TxnAt.is c.requires.satisfied in
     txn_lawful p c.in-TxnAt.d c.in-TxnAt.field-1 (resolved_of c.txn_formula.result.now) c.args.a.now c.items-in-TxnAt.result.now c.ops-in-TxnAt.result
     c.txn_formula.ensures.resolved c.txn_formula.ensures.well_formed satisfied c.items-in-TxnAt.ensures c.ops-in-TxnAt.ensures.count
+
+pub of_transaction-requires-clause-some : goal.of_transaction-requires-clause-some
+of_transaction-requires-clause-some c =
+    let p = c.args.t.now.program in
+    let satisfied = subst (λ (g : Goal). IsSatisfiedBy p g c.args.a.now) c.in-TxnAt.is c.requires.satisfied in
+    txn_some p c.in-TxnAt.d c.in-TxnAt.field-1 (resolved_of c.txn_formula.result.now) c.args.a.now
+    c.txn_formula.ensures.resolved c.txn_formula.ensures.well_formed satisfied
