@@ -181,6 +181,7 @@ module _ (number : ℕ → ℕ) (x : List Effect) (apart : (a b : ℕ) (e g : Ef
         fits = fits-too types is.fits;
         few = omega (arith, count, short);
         begun = is.begun;
+        has_effect = (is.has_effect.0, ap (λ (current : ℕ → Bool). current is.has_effect.0) (inside-same number x run) ∙ is.has_effect.1);
         declared = λ a e run_of name there member same. let old = before a e there in is.declared a old.0 run_of name old.1 (ap (λ (u : Effect). u.member) (sym old.2) ∙ member) same;
         holds = holds-txn-too number x apart (txn_formula_of level) run is.holds;
         chosen = chosen-too number x f.vars places is.chosen;

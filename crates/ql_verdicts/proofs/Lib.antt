@@ -12,6 +12,7 @@ pub mod Renumbering
 mod ExecutionAgain
 mod RunAgain
 mod BlockAgain
+mod BegunRuns
 mod Denied
 pub mod Reported
 mod Lists

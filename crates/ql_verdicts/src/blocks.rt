@@ -2,11 +2,8 @@ ghost use Rattle.std.specs.Prelude.{List, ℕ};
 ghost use Rattle.ql_commands.specs.Sources.{IsSourceOf};
 ghost use Rattle.ql_counter.specs.Countermodels.{IsCounterOf};
 ghost use Rattle.ql_counter.specs.declared.counter.Counter.{Counter};
-ghost use Rattle.ql_base.specs.declared.ids.OpId.{OpId};
 ghost use Rattle.ql_ground.specs.declared.goal.Goal.{Goal};
-ghost use Rattle.ql_ground.specs.declared.goal.Goal.TheVariants.{OpAt};
 ghost use Rattle.ql_judging.specs.Verify.{VerifySays};
-ghost use Rattle.ql_levels.specs.declared.level.Level.{Level};
 ghost use Rattle.ql_reply.specs.declared.status.Status.{Status};
 ghost use Rattle.ql_lang.specs.declared.program.Program.{Program};
 ghost use Rattle.ql_report.specs.EffectTexts.{execution_text};
@@ -29,11 +26,10 @@ pub fn countermodels_are_read_again()
         → IsCounterOf p g c → IsBlockFile p g c (execution_text p object_names c.execution) }
 {}
 
-/// Of such a file `verify` says that a contract is false, there or before, or that judging it is too much work: here of an
-/// operation's countermodel.
+/// Of such a file `verify` says that a contract is false, there or before, or that judging it is too much work.
 pub fn countermodels_are_denied()
-    ensures { (source text said : List ℕ) (p : Program) (o : OpId) (level : Level) (c : Counter)
-        (status : Status) → IsSourceOf source p → (file : IsBlockFile p (OpAt o level) c text)
+    ensures { (source text said : List ℕ) (p : Program) (g : Goal) (c : Counter) (status : Status)
+        → IsSourceOf source p → (file : IsBlockFile p g c text)
         → VerifySays source text status said
         → IsDenied source file.execution c.at status said }
 {
