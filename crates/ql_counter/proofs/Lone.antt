@@ -27,11 +27,14 @@ use Rattle.ql_formula.specs.Truth.{Chosen, HoldsTxn, in_range}
 use Rattle.ql_implication.specs.Executions.{FitsProgram}
 use Rattle.ql_counter.proofs.OpLevels.{implies}
 
+abbrev pub lone_of : ObjId → OpId → SessId → RunId → DeclId → Draft
+lone_of object op session run name = record { object = object; op = op; args = []; payload = Nothing; answer = value.Unit; session = session; member = Inside run name; seen = [] }
+
 module _ (x : List Effect) (law : IsExecution x) (object : ObjId) (op : OpId) (session : SessId) (run : RunId) (name : DeclId)
     (elsewhere : (a : ℕ) (e : Effect) → effect_at x a ≡ Some e → e.object.0 ≡ object.0 → ⊥)
     (outside : (a : ℕ) (e : Effect) → effect_at x a ≡ Some e → in_run run.0 e.member ≡ false) where
   abbrev lone : Draft
-  lone = record { object = object; op = op; args = []; payload = Nothing; answer = value.Unit; session = session; member = Inside run name; seen = [] }
+  lone = lone_of object op session run name
 
   abbrev last : Effect
   last = effect_of x lone

@@ -43,7 +43,7 @@ use Rattle.ql_counter.specs.Naming.{Shows}
 use Rattle.ql_counter.proofs.Building.{built-length, effect-is, effect-there, slot_at, stored-end, stored-more, stored-step}
 use Rattle.ql_counter.proofs.Alike.{objects}
 use Rattle.ql_counter.proofs.EqualConstants.{class-within, least-bound, least-found, least-passes}
-use Rattle.ql_counter.proofs.Lone.{both-longer, chosen-longer, fits, holds, inside-last, lawful, lone, long, outside-agrees, soo-longer, txn-longer}
+use Rattle.ql_counter.proofs.Lone.{both-longer, chosen-longer, fits, holds, inside-last, lawful, lone_of, long, outside-agrees, soo-longer, txn-longer}
 use Rattle.ql_counter.proofs.Arranged.{IsArranged, built-lawful}
 use Rattle.ql_counter.proofs.Agreement.{named-agrees, place-is}
 use Rattle.ql_counter.proofs.Arranging.{slots-arranged, slots-short}
@@ -331,7 +331,7 @@ module _ (types : List ℕ) (d : ℕ) (level : TxnLevel) (f : Resolved) (a : Lis
     object = record { 0 = n }
 
     abbrev with_run : ℕ → List Effect
-    with_run r = x ++ effect_of x (lone (record { 0 = n }) (record { 0 = p.op 0 }) (record { 0 = n }) (record { 0 = r }) (record { 0 = d })) ∷ []
+    with_run r = x ++ effect_of x (lone_of (record { 0 = n }) (record { 0 = p.op 0 }) (record { 0 = n }) (record { 0 = r }) (record { 0 = d })) ∷ []
 
     abbrev y : List Effect
     y = with_run run
@@ -392,7 +392,7 @@ module _ (types : List ℕ) (d : ℕ) (level : TxnLevel) (f : Resolved) (a : Lis
     its-run : with_run (run_by a s n) ≡ y
     its-run = ap with_run (ap (run_by a s) (sym none))
 
-  drafts-of : Bool → List Effect
+  abbrev drafts-of : Bool → List Effect
   drafts-of b = stored_after [] (drafts_of p slots ++ (if b then lone_draft p ∷ [] else []))
 
   pub txn-counter : IsTxnCounter types d level f (txn_execution a types d f) run (txn_places a types d f)

@@ -1,5 +1,5 @@
 -- A printed countermodel is read as its execution, in which its goal fails as it is said.
-use Rattle.std.proofs.Common.{◌≡◌, ℕ, suc, ◌+◌, ◌<◌, ◌≤◌, Bool, false, List, [], ◌∷◌, Option, Some, None, codes, get_or, length, slice_index, refl, ap, sym, subst, arith, ◌∙◌}
+use Rattle.std.proofs.Common.{◌≡◌, ℕ, zero, suc, ◌+◌, ◌<◌, ◌≤◌, Bool, false, List, [], ◌∷◌, Option, Some, None, codes, get_or, length, slice_index, refl, ap, sym, subst, arith, ◌∙◌}
 use Rattle.std.specs.List.{All}
 use Rattle.std.specs.Option.{option_map}
 use Rattle.std.proofs.lemmas.List.{length-map}
@@ -53,24 +53,24 @@ use Rattle.ql_verdicts.proofs.Truth.{body-same, chosen-too, holds-too, holds-txn
 
 names-named : (o : ℕ) → o < 7 → IsName (object_name object_names o)
 unfolding is_keyword keywords is_lower is_name_byte
-names-named 0 l = record { shape = record { some = omega arith; first = refl; all = AllPass-from_list_all is_name_byte (codes "o0") refl }; short = omega arith; free = refl }
-names-named 1 l = record { shape = record { some = omega arith; first = refl; all = AllPass-from_list_all is_name_byte (codes "o1") refl }; short = omega arith; free = refl }
-names-named 2 l = record { shape = record { some = omega arith; first = refl; all = AllPass-from_list_all is_name_byte (codes "o2") refl }; short = omega arith; free = refl }
-names-named 3 l = record { shape = record { some = omega arith; first = refl; all = AllPass-from_list_all is_name_byte (codes "o3") refl }; short = omega arith; free = refl }
-names-named 4 l = record { shape = record { some = omega arith; first = refl; all = AllPass-from_list_all is_name_byte (codes "o4") refl }; short = omega arith; free = refl }
-names-named 5 l = record { shape = record { some = omega arith; first = refl; all = AllPass-from_list_all is_name_byte (codes "o5") refl }; short = omega arith; free = refl }
-names-named 6 l = record { shape = record { some = omega arith; first = refl; all = AllPass-from_list_all is_name_byte (codes "o6") refl }; short = omega arith; free = refl }
+names-named zero l = record { shape = record { some = omega arith; first = refl; all = AllPass-from_list_all is_name_byte (codes "o0") refl }; short = omega arith; free = refl }
+names-named (suc zero) l = record { shape = record { some = omega arith; first = refl; all = AllPass-from_list_all is_name_byte (codes "o1") refl }; short = omega arith; free = refl }
+names-named (suc (suc zero)) l = record { shape = record { some = omega arith; first = refl; all = AllPass-from_list_all is_name_byte (codes "o2") refl }; short = omega arith; free = refl }
+names-named (suc (suc (suc zero))) l = record { shape = record { some = omega arith; first = refl; all = AllPass-from_list_all is_name_byte (codes "o3") refl }; short = omega arith; free = refl }
+names-named (suc (suc (suc (suc zero)))) l = record { shape = record { some = omega arith; first = refl; all = AllPass-from_list_all is_name_byte (codes "o4") refl }; short = omega arith; free = refl }
+names-named (suc (suc (suc (suc (suc zero))))) l = record { shape = record { some = omega arith; first = refl; all = AllPass-from_list_all is_name_byte (codes "o5") refl }; short = omega arith; free = refl }
+names-named (suc (suc (suc (suc (suc (suc zero)))))) l = record { shape = record { some = omega arith; first = refl; all = AllPass-from_list_all is_name_byte (codes "o6") refl }; short = omega arith; free = refl }
 names-named (suc (suc (suc (suc (suc (suc (suc o))))))) l = absurd (omega (arith, l))
 
 -- the second byte tells them apart
 second_byte : (o : ℕ) → o < 7 → slice_index (object_name object_names o) 1 ≡ 48 + o
-second_byte 0 l = refl
-second_byte 1 l = refl
-second_byte 2 l = refl
-second_byte 3 l = refl
-second_byte 4 l = refl
-second_byte 5 l = refl
-second_byte 6 l = refl
+second_byte zero l = refl
+second_byte (suc zero) l = refl
+second_byte (suc (suc zero)) l = refl
+second_byte (suc (suc (suc zero))) l = refl
+second_byte (suc (suc (suc (suc zero)))) l = refl
+second_byte (suc (suc (suc (suc (suc zero))))) l = refl
+second_byte (suc (suc (suc (suc (suc (suc zero)))))) l = refl
 second_byte (suc (suc (suc (suc (suc (suc (suc o))))))) l = absurd (omega (arith, l))
 
 names-apart : AreObjects object_names
@@ -214,5 +214,6 @@ block-read source p g c source_is is =
       execution = y;
       renumbered = same;
       reports = reports;
-      fails = fails-too p (number p object_names x printable) g c same.apart reports.2.execution is.fails;
+      fails = subst (λ (z : List Effect). FailsGoal p g (record c { execution = z })) (sym same.is)
+          (fails-too p same.number g c same.apart (subst IsExecution same.is reports.2.execution) is.fails);
     }
