@@ -150,13 +150,13 @@ module _ (x : List Effect) (law : IsExecution x) (object : ObjId) (op : OpId) (s
     ];
     one_type = λ a b e f there other same. elim (cases_pushed x last e a there) [
       | inl old ↦ elim (cases_pushed x last f b other) [
-          | inl older ↦ is.one_type a b e f old.1 older.1 same
-          | inr new ↦ absurd (elsewhere a e old.1 (same ∙ ap (λ (g : Effect). g.object.0) new.1))
-        ]
+        | inl older ↦ is.one_type a b e f old.1 older.1 same
+        | inr new ↦ absurd (elsewhere a e old.1 (same ∙ ap (λ (g : Effect). g.object.0) new.1))
+      ]
       | inr new ↦ elim (cases_pushed x last f b other) [
-          | inl older ↦ absurd (elsewhere b f older.1 (sym same ∙ ap (λ (g : Effect). g.object.0) new.1))
-          | inr newer ↦ ap (λ (g : Effect). slice_index types g.op.0) (new.1 ∙ sym newer.1)
-        ]
+        | inl older ↦ absurd (elsewhere b f older.1 (sym same ∙ ap (λ (g : Effect). g.object.0) new.1))
+        | inr newer ↦ ap (λ (g : Effect). slice_index types g.op.0) (new.1 ∙ sym newer.1)
+      ]
     ];
   }
 

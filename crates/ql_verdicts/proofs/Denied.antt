@@ -92,14 +92,17 @@ module _ (tree : (bytes : List ℕ) (s t : Source) → IsProgramText bytes s →
   denied said TooLarge says = inr refl
   denied said No (q, is_q, x, file, work, b, verdict, reported) =
       let here = fails-in q is_q x file in
-      inl (refl, subst (λ (z : List Effect). ReportsFoundBy source z at said) (sym here.0) (record {
-        program = q;
-        is_source = is_q;
-        breach = b;
-        is_first = verdict;
-        found = found-by q x at here.1 b verdict;
-        reports = reported;
-      }))
+      inl (
+        refl,
+        subst (λ (z : List Effect). ReportsFoundBy source z at said) (sym here.0) (record {
+          program = q;
+          is_source = is_q;
+          breach = b;
+          is_first = verdict;
+          found = found-by q x at here.1 b verdict;
+          reports = reported;
+        }),
+      )
   denied said Done (q, is_q, x, file, work, verdict, holds) = absurd (never-none q x at (fails-in q is_q x file).1 verdict)
   denied said ReadFault says = absurd says
   denied said WriteFault says = absurd says
