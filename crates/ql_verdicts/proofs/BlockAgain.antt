@@ -38,9 +38,9 @@ use Rattle.ql_report.specs.EffectTexts.{CarriesValues, execution_text, object_na
 use Rattle.ql_typing.specs.Operations.{op_kinds}
 use Rattle.ql_value.specs.declared.value.Value.{Value}
 use Rattle.ql_value.specs.ValueGrammar.{IsValue}
-use Rattle.ql_why.specs.Why.{object_names}
+use Rattle.ql_why.specs.Why.{IsCounterText, object_names}
 use Rattle.ql_why.proofs.Printable.{named}
-use Rattle.ql_verdicts.specs.Blocks.{IsBlockFile}
+use Rattle.ql_verdicts.specs.Blocks.{IsBlockFile, IsReadBlock}
 use Rattle.ql_verdicts.specs.Printable.{AreObjects, FitsMember, IsPrintable, IsWritable}
 use Rattle.ql_verdicts.specs.Renumbered.{IsRenumbered, renumbered}
 use Rattle.ql_verdicts.proofs.ExecutionAgain.{execution_leads, number, same_execution}
@@ -217,3 +217,6 @@ block-read source p g c source_is is =
       fails = subst (λ (z : List Effect). FailsGoal p g (record c { execution = z })) (sym same.is)
           (fails-too p same.number g c same.apart (subst IsExecution same.is reports.2.execution) is.fails);
     }
+
+pub text-read : (source block : List ℕ) (p : Program) (g : Goal) → IsSourceOf source p → IsCounterText p g block → IsReadBlock p g block
+text-read source block p g source_is (c, is, text) = (c, is, execution_text p object_names c.execution, block-read source p g c source_is is, text)

@@ -1,7 +1,7 @@
 -- A printed countermodel as the file of an execution, and what `verify` says of it.
-use Rattle.std.specs.Prelude.{◌≡◌, ◌⊎◌, ◌≤◌, ℕ, List, Some}
+use Rattle.std.specs.Prelude.{◌≡◌, ◌⊎◌, ◌≤◌, ℕ, List, ◌++◌, Some}
 use Rattle.ql_commands.specs.Sources.{IsSourceOf}
-use Rattle.ql_counter.specs.Countermodels.{FailsGoal}
+use Rattle.ql_counter.specs.Countermodels.{FailsGoal, IsCounterOf}
 use Rattle.ql_counter.specs.declared.counter.At.{At}
 use Rattle.ql_counter.specs.declared.counter.At.TheVariants.{Effect as AtEffect, Run as OfRun}
 use Rattle.ql_counter.specs.declared.counter.Counter.{Counter}
@@ -14,6 +14,7 @@ use Rattle.ql_reply.specs.declared.status.Status.TheVariants.{No, TooLarge}
 use Rattle.ql_verify.specs.Verdicts.{IsVerdict}
 use Rattle.ql_verify.specs.declared.breach.Breach.{Breach}
 use Rattle.ql_verify.specs.declared.breach.Breach.TheVariants.{AtOp, AtTxn}
+use Rattle.ql_why.specs.Why.{block_heading}
 use Rattle.ql_verdicts.specs.Renumbered.{IsRenumbered}
 
 -- A text is the file of the countermodel's execution, with objects numbered by their first occurrence: in what it is
@@ -23,6 +24,11 @@ pub record IsBlockFile (p : Program) (g : Goal) (c : Counter) (text : List ℕ) 
   pub renumbered : IsRenumbered c.execution execution
   pub reports : ReportsExecution p text execution
   pub fails : FailsGoal p g (record c { execution = execution })
+
+-- a printed block is a first line, and the file of the execution of some countermodel of the goal
+abbrev pub IsReadBlock : Program → Goal → List ℕ → Type 0
+IsReadBlock p g block =
+    (c : Counter) × IsCounterOf p g c × (file : List ℕ) × IsBlockFile p g c file × (block ≡ block_heading p g c ++ file)
 
 -- a breach is found at this effect or an earlier one, or where a begun transaction's contract is false, of that one, of
 -- one with a lower number, or at an effect
