@@ -5,6 +5,7 @@ use Rattle.std.proofs.lemmas.List.{append-nil}
 use Rattle.std.proofs.lemmas.Option.{same_Some, slice_get-get_or, slice_get_within}
 use Rattle.ql_base.specs.declared.ids.DeclId.{DeclId}
 use Rattle.ql_base.specs.declared.no_memory.NoMemory.{NoMemory}
+use Rattle.ql_atoms.specs.Atoms.{Size}
 use Rattle.ql_atoms.specs.declared.atoms.PairKind.TheVariants.{SameObj, SameTxn}
 use Rattle.ql_lang.specs.Formulas.{Resolved}
 use Rattle.ql_lang.specs.declared.program.Program.{Program}
@@ -20,7 +21,7 @@ use Rattle.ql_counter.proofs.Building.{effect-is, slot_at, stored-end, stored-mo
 use Rattle.ql_counter.proofs.EqualConstants.{least-bound}
 use Rattle.ql_counter.specs.declared.counter.Counter.{Counter}
 use Rattle.ql_ground.specs.Ground.{txn_size}
-use Rattle.ql_counter.specs.Assigned.{begun_member, current_by, lone_draft, op_pattern, op_slots, related_by, txn_pattern, txn_slots}
+use Rattle.ql_counter.specs.Assigned.{begun_member, current_by, lone_draft, op_pattern, op_slots, related_by, run_by, txn_pattern, txn_slots}
 use Rattle.ql_counter.specs.Countermodels.{AreWithin, FailsGoal, IsBuiltOfOp, IsBuiltOfTxn, IsCounterOf, IsDeclaredMember, IsWithin}
 use Rattle.ql_ground.specs.declared.goal.Goal.{Goal}
 
@@ -30,6 +31,13 @@ object-within p Opening b = omega arith
 object-within p Closing b = omega arith
 object-within p Aide b = least-bound p.count (λ k. p.rel SameObj k b)
 object-within p Own b = least-bound p.count (λ k. p.rel SameObj k b)
+
+-- a session is named by one of the constants, and so is a begun transaction
+session-within : (p : Pattern) (b : ℕ) → session_of p b ≤ p.count
+session-within p b = least-bound p.count (λ k. one_session p k b)
+
+run-within : (a : List Bool) (s : Size) (c : ℕ) → run_by a s c ≤ suc s.constants
+run-within a s c = let low = least-bound s.constants (λ k. related_by a s SameTxn k c) in omega (arith, low)
 
 module _ (program : Program) where
   built-within : (p : Pattern) (slots : List Slot) → p.count ≤ 6 → ((c : ℕ) → IsDeclaredMember program (p.member c)) → AreWithin program (built p slots)
@@ -43,7 +51,7 @@ module _ (program : Program) where
       let member : e.member ≡ p.member t.block = ap (λ (u : Effect). u.member) same.1 in
       record {
         object = omega (arith, object, few, object-within p t.part t.block);
-        session = omega (arith, session, few, least-bound p.count (λ i. one_session p i t.block));
+        session = omega (arith, session, few, session-within p t.block);
         member = subst (IsDeclaredMember program) (sym member) (declared t.block);
         bare = record {
           args = ap (λ (u : Effect). u.args) same.1;
@@ -59,7 +67,7 @@ module _ (program : Program) where
 
   declared-run : (a : List Bool) (types : List ℕ) (name : DeclId) (f : Resolved) → length f.vars ≤ 5 → name.0 < length program.txns → (c : ℕ) → IsDeclaredMember program (begun_member a (txn_size types f) name.0 c)
   declared-run a types name f few known c =
-      let low = least-bound (length f.vars) (λ k. related_by a (txn_size types f) SameTxn k c) in
+      let low = run-within a (txn_size types f) c in
       (omega arith, omega (arith, few, low), known)
 
   lone-within : (p : Pattern) (x : List Effect) → p.count ≤ 6 → IsDeclaredMember program (p.member p.count) → IsWithin program (effect_of x (lone_draft p))
