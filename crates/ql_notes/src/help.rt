@@ -12,6 +12,7 @@ pub const HELP: &str = "usage: ./quelea COMMAND ..
   prove SOURCE                a certificate of these levels
   check SOURCE CERTIFICATE    whether a certificate shows that levels are enough
   verify SOURCE EXECUTION     whether every contract is true in an execution
+  import SOURCE TRACE         the execution that a service's records tell
   holds FILE                  whether a contract is true at one effect
   run [--json] SOURCE SCHEDULE
                               the replies and the execution of a simulated store
