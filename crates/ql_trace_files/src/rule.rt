@@ -26,23 +26,3 @@ pub enum TraceRule {
     /// A line comes after itself, or after such a line.
     Cycle,
 }
-
-impl TraceRule {
-    /// Its name in an answer.
-    pub fn name(self) -> &'static str {
-        match self {
-            TraceRule::Json => "Json",
-            TraceRule::Unexpected => "Unexpected",
-            TraceRule::NoView => "NoView",
-            TraceRule::Unknown => "Unknown",
-            TraceRule::Kind => "Kind",
-            TraceRule::Twice => "Twice",
-            TraceRule::Mixed => "Mixed",
-            TraceRule::SplitTxn => "SplitTxn",
-            TraceRule::TooMany => "TooMany",
-            TraceRule::NoSuch => "NoSuch",
-            TraceRule::OtherObject => "OtherObject",
-            TraceRule::Cycle => "Cycle",
-        }
-    }
-}
