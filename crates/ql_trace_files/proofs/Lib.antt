@@ -1,1 +1,4 @@
 mod Files
+mod Places
+mod Scans
+mod Tables

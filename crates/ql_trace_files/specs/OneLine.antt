@@ -43,15 +43,18 @@ room false false false false y z e = refl
 -- an operation that a line names is one of the program
 known_decl : (p : Program) (o : ℕ) (d : Option (Option DeclId)) (known : Known) → option_map (λ decl. record { op = record { 0 = o }; decl = decl }) d ≡ Some known → o ≡ known.op.0
 known_decl p o None known e = absurd cc
-known_decl p o (Some decl) known e = cc
+known_decl p o (Some decl) known e = let same : record { op = record { 0 = o }; decl = decl } ≡ known = cc in ap (λ (k : Known). k.op.0) same
+
+within : {X : Type 0} (q : X → Bool) (xs : List X) (i : ℕ) → position q xs ≡ Some i → i < length xs
+within q [] i e = absurd cc
+within q (x ∷ xs) i e = (position-Some q (x ∷ xs) i x e).0
 
 known_place : (p : Program) (h : HeadingText) (o : Option ℕ) (known : Known) → op_place p.types h.op ≡ o
     → option_and_then (λ o. option_map (λ decl. record { op = record { 0 = o }; decl = decl }) (decl_in p h.txn)) o ≡ Some known → known.op.0 < length (all_ops p.types)
 known_place p h None known at e = absurd cc
 known_place p h (Some o) known at e =
     let same = known_decl p o (decl_in p h.txn) known e in
-    let inside = (position-Some (λ op. bytes_eq h.op op.name.word) (all_ops p.types) o (all_ops p.types) at) in
-    subst (λ (k : ℕ). k < length (all_ops p.types)) same inside.0
+    subst (λ (k : ℕ). k < length (all_ops p.types)) same (within (λ op. bytes_eq h.op op.name.word) (all_ops p.types) o at)
 
 pub known_within : (p : Program) (h : HeadingText) (known : Known) → known_in p h ≡ Some known → known.op.0 < length (all_ops p.types)
 known_within p h known e = known_place p h (op_place p.types h.op) known refl e

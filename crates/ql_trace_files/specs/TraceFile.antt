@@ -115,5 +115,5 @@ FirstTraceFault p file fault = outcomes.FirstFault (tells p) ClosesTrace nothing
 
 -- a refusal is the first fault, or that memory has run out
 abbrev pub IsTraceRefusal : Program → Ahead → FileFault TraceRule → Type 0
-IsTraceRefusal p file (file.Broken fault) = FirstTraceFault p file fault
-IsTraceRefusal p file file.NoMemory = Unit {0}
+IsTraceRefusal p ahead (file.Broken fault) = FirstTraceFault p ahead fault
+IsTraceRefusal p ahead file.NoMemory = Unit {0}

@@ -57,10 +57,19 @@ impl LinePlaces {
         grow(&mut self.places, id as usize)?;
         let place = self.ids.len();
         self.ids.push(id)?;
-        if self.places[id as usize].is_none() {
-            self.places[id as usize] = Some(place);
-        }
+        note(&mut self.places, id as usize, place);
         Ok(())
+    }
+}
+
+// Notes a place of a number, unless it has one.
+fn note(places: &mut Vec<Option<usize>>, number: usize, place: usize)
+    requires { number < length places.old.items }
+    ensures { (ids : List ℕ) → HasPlaces places.old.items ids → length ids ≡ place
+        → HasPlaces places.new.items (ids ++ number ∷ []) }
+{
+    if places[number].is_none() {
+        places[number] = Some(place);
     }
 }
 

@@ -1,5 +1,5 @@
 // The numbers of the IDs that a line mentions, of which the new ones are added to the tables.
-ghost use Rattle.std.specs.Prelude.{◌≡◌, Some, IfOk, map};
+ghost use Rattle.std.specs.Prelude.{◌≡◌, [], IfOk, map};
 ghost use Rattle.std.specs.Option.{option_map};
 ghost use Rattle.ql_base.specs.Numbering.{place, with_name};
 ghost use Rattle.ql_trace.specs.FormTexts.{count_text, form_text, part_text, sight_text};

@@ -1,5 +1,5 @@
 // What each line of a whole trace refers to.
-ghost use Rattle.std.specs.Prelude.{◌≡◌, IfOk, nat_eq, slice_get};
+ghost use Rattle.std.specs.Prelude.{◌≡◌, IfOk, false, nat_eq, slice_get};
 ghost use Rattle.std.specs.List.{list_all};
 ghost use Rattle.std.specs.Option.{option_map_or};
 ghost use Rattle.ql_trace_files.specs.References.{
