@@ -5,12 +5,12 @@ use Rattle.std.specs.Option.{option_map_or}
 use Rattle.ql_base.specs.IdLists.{has_id}
 use Rattle.ql_exec.specs.Relations.{same_run}
 use Rattle.ql_value.specs.declared.value.Value.{Value}
-use Rattle.ql_imported.specs.declared.line.Dot.{Dot}
-use Rattle.ql_imported.specs.declared.line.Line.{Line}
+use Rattle.ql_trace_files.specs.declared.trace_line.CallDot.{CallDot}
+use Rattle.ql_trace_files.specs.declared.trace_line.TraceLine.{TraceLine}
 
-module _ (lines : List Line) where
+module _ (lines : List TraceLine) where
   -- both lines are there, and this is true of them
-  abbrev pub both_lines : (Line → Line → Bool) → ℕ → ℕ → Bool
+  abbrev pub both_lines : (TraceLine → TraceLine → Bool) → ℕ → ℕ → Bool
   both_lines test b a = option_map_or (λ l. option_map_or (λ m. test l m) (slice_get lines a) false) (slice_get lines b) false
 
   abbrev pub same_object : ℕ → ℕ → Bool
@@ -18,29 +18,29 @@ module _ (lines : List Line) where
 
   -- b names a in `vis`
   abbrev pub names : ℕ → ℕ → Bool
-  names b a = both_lines (λ l m. has_id l.view.vis m.id) b a
+  names b a = both_lines (λ l m. has_id l.sighting.vis m.id) b a
 
   -- a dot is at or below the count that a clock has of its origin
-  abbrev pub is_counted : List Dot → Dot → Bool
+  abbrev pub is_counted : List CallDot → CallDot → Bool
   is_counted clock dot = list_any (λ c. nat_eq c.origin dot.origin && nat_le dot.count c.count) clock
 
   -- b saw a, which is another line on its object, by its clock
   abbrev pub saw_by_clock : ℕ → ℕ → Bool
-  saw_by_clock b a = not (nat_eq b a) && same_object b a && both_lines (λ l m. option_map_or (is_counted l.view.clock) m.view.dot false) b a
+  saw_by_clock b a = not (nat_eq b a) && same_object b a && both_lines (λ l m. option_map_or (is_counted l.sighting.clock) m.sighting.dot false) b a
 
   abbrev pub saw : ℕ → ℕ → Bool
   saw b a = names b a || saw_by_clock b a
 
   -- b names a in `deps`
   abbrev pub rests_on : ℕ → ℕ → Bool
-  rests_on b a = both_lines (λ l m. has_id l.view.deps m.id) b a
+  rests_on b a = both_lines (λ l m. has_id l.sighting.deps m.id) b a
 
   abbrev pub refers : ℕ → ℕ → Bool
   refers b a = saw b a || rests_on b a
 
   -- the least set of lines with each whose answer is known, and each that one of the set refers to
   pub data Kept : ℕ → Type 0 where
-    known : (a : ℕ) (l : Line) (answer : Value) → slice_get lines a ≡ Some l → l.answer ≡ Some answer → Kept a
+    known : (a : ℕ) (l : TraceLine) (answer : Value) → slice_get lines a ≡ Some l → l.answer ≡ Some answer → Kept a
     referred : (b a : ℕ) → Kept b → refers b a ≡ true → Kept a
 
   -- a is reached from b by no or more steps

@@ -2,10 +2,10 @@
 -- values, else quiet: so it does nothing in a fold.
 use Rattle.std.specs.Prelude.{◌≡◌, ◌⊎◌, ◌≤◌, ℕ, suc, Bool, true, false, List, [], ◌∷◌, ◌++◌, Option, None, Some, slice_get}
 use Rattle.ql_base.specs.IdLists.{has_id, IsAscending}
-use Rattle.ql_imported.specs.declared.line.Line.{Line}
+use Rattle.ql_trace_files.specs.declared.trace_line.TraceLine.{TraceLine}
 use Rattle.ql_imported.specs.Before.{After, InView, IsFree, IsLowest, IsNext, IsReady, Kept, is_earlier, one_unit, same_object}
 
-module _ (lines : List Line) (placed : List ℕ) (loud : ℕ → Bool) where
+module _ (lines : List TraceLine) (placed : List ℕ) (loud : ℕ → Bool) where
   -- a chain of recorded views and of steps of sessions leads from a to b on one object
   pub data HappenedBefore : ℕ → ℕ → Type 0 where
     seen : (a b : ℕ) → InView lines b a → HappenedBefore a b

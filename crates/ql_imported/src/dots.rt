@@ -1,8 +1,8 @@
 // Which lines a call saw by its clock.
 
-use crate::line::{Dot, Line};
-use crate::trace::Trace;
 use ql_base::NoMemory;
+use ql_trace_files::Trace;
+use ql_trace_files::{CallDot, TraceLine};
 use std::alloc::Global;
 
 // A line's dot, on its object.
@@ -24,9 +24,9 @@ impl Dots {
     /// The dots of a trace.
     pub(crate) fn of(alloc: Global, trace: &Trace) -> Result<Dots, NoMemory> {
         let mut dotted = Vec::new(alloc);
-        for k in 0..trace.lines.len() {
-            let line = &trace.lines[k];
-            if let Some(dot) = line.view.dot {
+        for k in 0..trace.lines.items().len() {
+            let line = &trace.lines.items()[k];
+            if let Some(dot) = line.sighting.dot {
                 dotted.push(Dotted {
                     object: line.object.0,
                     origin: dot.origin,
@@ -44,9 +44,9 @@ impl Dots {
         &self,
         seen: &mut Vec<u32>,
         own: u32,
-        line: &Line,
+        line: &TraceLine,
     ) -> Result<(), NoMemory> {
-        for dot in line.view.clock.dots() {
+        for dot in line.sighting.clock.dots() {
             for dotted in self.up_to(line.object.0, *dot) {
                 if dotted.line != own {
                     seen.push(dotted.line)?;
@@ -57,7 +57,7 @@ impl Dots {
     }
 
     // The dots on an object of an origin, up to a count.
-    fn up_to(&self, object: u32, dot: Dot) -> &[Dotted] {
+    fn up_to(&self, object: u32, dot: CallDot) -> &[Dotted] {
         let start = self
             .dotted
             .partition_point(|d| (d.object, d.origin) < (object, dot.origin));

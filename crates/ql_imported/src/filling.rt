@@ -125,7 +125,7 @@ impl Filling {
 
     // Whether a line's effect will emit nothing. All lines of its recorded view are placed.
     fn is_quiet(&mut self, recorded: &Recorded<'_>, line: u32) -> Result<bool, NoMemory> {
-        let said = &recorded.trace.lines[line as usize];
+        let said = &recorded.trace.lines.items()[line as usize];
         if let Some(payload) = &said.payload {
             return Ok(!emits(payload));
         }
@@ -191,7 +191,7 @@ impl Filling {
         let covers = self.covers(recorded, line)?;
         self.round += 1;
         let own = self.units.of[line as usize];
-        let object = recorded.trace.lines[line as usize].object.0 as usize;
+        let object = recorded.trace.lines.items()[line as usize].object.0 as usize;
         let view = &recorded.views[line as usize];
         let mut seen = IdSet::new(recorded.alloc);
         for k in 0..self.placed.on_object[object].len() {
@@ -245,7 +245,7 @@ impl Filling {
     fn judge(&self, recorded: &Recorded<'_>, covers: &[Cover], unit: usize) -> bool {
         self.done[unit] == self.units.lines[unit].len()
             && self.units.lines[unit].iter().all(|line| {
-                let object = recorded.trace.lines[*line as usize].object.0;
+                let object = recorded.trace.lines.items()[*line as usize].object.0;
                 covers.iter().all(|cover| cover.object != object
                     || self.is_covered(&cover.view, *line))
             })
@@ -262,7 +262,7 @@ impl Filling {
         }
         let mut covers = Vec::new(recorded.alloc);
         covers.push(Cover {
-            object: recorded.trace.lines[line as usize].object.0,
+            object: recorded.trace.lines.items()[line as usize].object.0,
             view: recorded.views[line as usize].copy()?,
         })?;
         Ok(covers)
@@ -272,7 +272,7 @@ impl Filling {
     fn common(&self, recorded: &Recorded<'_>, lines: &[u32]) -> Result<Vec<Cover>, NoMemory> {
         let mut covers: Vec<Cover> = Vec::new(recorded.alloc);
         for line in lines {
-            let object = recorded.trace.lines[*line as usize].object.0;
+            let object = recorded.trace.lines.items()[*line as usize].object.0;
             let view = &recorded.views[*line as usize];
             match covers.iter().position(|cover| cover.object == object) {
                 Some(k) => covers[k].view.keep(view),
@@ -294,7 +294,7 @@ impl Filling {
         covers: &[Cover],
     ) -> Result<bool, NoMemory> {
         for line in lines {
-            let object = recorded.trace.lines[*line as usize].object.0 as usize;
+            let object = recorded.trace.lines.items()[*line as usize].object.0 as usize;
             let view = &recorded.views[*line as usize];
             for other in &self.placed.on_object[object] {
                 if self.placed.loud[*other as usize]
@@ -313,7 +313,7 @@ impl Filling {
     fn is_loud_part_seen(&self, recorded: &Recorded<'_>, covers: &[Cover], line: u32) -> bool {
         let unit = self.units.of[line as usize] as usize;
         self.units.lines[unit].iter().all(|other| {
-            let object = recorded.trace.lines[*other as usize].object.0;
+            let object = recorded.trace.lines.items()[*other as usize].object.0;
             !self.placed.loud[*other as usize]
                 || covers.iter().all(|cover| {
                     cover.object != object || cover.view.has(recorded.places.of[*other as usize])

@@ -3,10 +3,8 @@ use crate::links::{Link, links_of};
 use crate::map_text::push_map;
 use crate::numbers::numbers_of;
 use crate::order::{Steps, first_unplaced, recorded_order};
-use crate::parse::parse_trace;
 use crate::placing::{Recorded, place_all};
-use crate::rule::TraceRule;
-use crate::trace::Trace;
+use crate::rule_name::rule_name;
 use crate::views::{Places, recorded_views};
 use ql_base::{NoMemory, push_bytes};
 use ql_commands::{bad_source, read_source};
@@ -14,6 +12,9 @@ use ql_eval::TypedFolder;
 use ql_lines::{Broken, FileFault};
 use ql_reply::{Cause, Reply, Status, bad_line};
 use ql_report::print_effects;
+use ql_trace_files::Trace;
+use ql_trace_files::TraceRule;
+use ql_trace_files::parse_trace;
 use ql_typing::Typed;
 use std::alloc::Global;
 
@@ -33,7 +34,7 @@ pub fn import(alloc: Global, source: &[u8], trace: &[u8]) -> Result<Reply, NoMem
 fn bad_trace(alloc: Global, fault: Broken<TraceRule>) -> Result<Reply, NoMemory> {
     Ok(Reply {
         status: Status::Bad,
-        text: bad_line(alloc, "trace", fault.line, fault.rule.name())?,
+        text: bad_line(alloc, "trace", fault.line, rule_name(fault.rule))?,
         cause: Cause::Text,
     })
 }

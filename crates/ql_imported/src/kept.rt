@@ -1,8 +1,8 @@
 // The lines that make effects: those whose answer is known, and those that one of these refers to.
 
 use crate::links::Link;
-use crate::trace::Trace;
 use ql_base::NoMemory;
+use ql_trace_files::Trace;
 use std::alloc::Global;
 
 /// Of each line whether it is kept.
@@ -14,7 +14,7 @@ pub(crate) fn kept_lines(
     let mut kept = Vec::with_capacity(alloc, links.len())?;
     let mut due = Vec::new(alloc);
     for k in 0..links.len() {
-        let is_known = trace.lines[k].answer.is_some();
+        let is_known = trace.lines.items()[k].answer.is_some();
         kept.push(is_known)?;
         if is_known {
             due.push(k as u32)?;

@@ -5,21 +5,15 @@
 mod bits;
 mod dots;
 mod filling;
-mod format;
 mod importing;
 mod kept;
-mod line;
 mod links;
 mod map_text;
 mod numbers;
 mod order;
-mod parse;
 mod placing;
 mod queue;
-mod reading;
-mod rule;
-mod texts;
-mod trace;
+mod rule_name;
 mod units;
 mod views;
 

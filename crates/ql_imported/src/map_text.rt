@@ -1,9 +1,9 @@
 // The lines before an execution that map its numbers and names to the trace's.
 
 use crate::numbers::Numbers;
-use crate::texts::Texts;
-use crate::trace::Trace;
 use ql_base::{NoMemory, push_bytes, push_number};
+use ql_trace_files::IdTable;
+use ql_trace_files::Trace;
 use serde_json::Value as Json;
 use std::alloc::Global;
 
@@ -17,9 +17,9 @@ pub(crate) fn push_map(
     numbers: &Numbers,
     order: &[u32],
 ) -> Result<(), NoMemory> {
-    push_sessions(alloc, out, &trace.sessions, &numbers.sessions)?;
-    push_objects(alloc, out, &trace.objects, numbers)?;
-    push_txns(alloc, out, &trace.txns, &numbers.txns)?;
+    push_sessions(alloc, out, &trace.ids.sessions, &numbers.sessions)?;
+    push_objects(alloc, out, &trace.ids.objects, numbers)?;
+    push_txns(alloc, out, &trace.ids.txns, &numbers.txns)?;
     push_left_out(alloc, out, trace, kept)?;
     push_ids(alloc, out, trace, order)
 }
@@ -27,7 +27,7 @@ pub(crate) fn push_map(
 fn push_sessions(
     alloc: Global,
     out: &mut Vec<u8>,
-    texts: &Texts,
+    texts: &IdTable,
     numbers: &[Option<u32>],
 ) -> Result<(), NoMemory> {
     for pair in &by_number(alloc, numbers)? {
@@ -43,7 +43,7 @@ fn push_sessions(
 fn push_objects(
     alloc: Global,
     out: &mut Vec<u8>,
-    texts: &Texts,
+    texts: &IdTable,
     numbers: &Numbers,
 ) -> Result<(), NoMemory> {
     for pair in &by_number(alloc, &numbers.objects)? {
@@ -59,7 +59,7 @@ fn push_objects(
 fn push_txns(
     alloc: Global,
     out: &mut Vec<u8>,
-    texts: &Texts,
+    texts: &IdTable,
     numbers: &[Option<u32>],
 ) -> Result<(), NoMemory> {
     for pair in &by_number(alloc, numbers)? {
@@ -92,11 +92,11 @@ fn push_left_out(
 ) -> Result<(), NoMemory> {
     for k in 0..kept.len() {
         if !kept[k] {
-            let line = &trace.lines[k];
+            let line = &trace.lines.items()[k];
             push_bytes(out, b"map left out line ")?;
             push_number(out, line.number)?;
             push_bytes(out, b" ")?;
-            push_text(alloc, out, trace.ids.text(line.id))?;
+            push_text(alloc, out, trace.ids.lines.text(line.id))?;
             push_bytes(out, b"\n")?;
         }
     }
@@ -110,11 +110,11 @@ fn push_ids(
     order: &[u32],
 ) -> Result<(), NoMemory> {
     for k in 0..order.len() {
-        let line = &trace.lines[order[k] as usize];
+        let line = &trace.lines.items()[order[k] as usize];
         push_bytes(out, b"map id ")?;
         push_number(out, k + 1)?;
         push_bytes(out, b" = ")?;
-        push_text(alloc, out, trace.ids.text(line.id))?;
+        push_text(alloc, out, trace.ids.lines.text(line.id))?;
         push_bytes(out, b" line ")?;
         push_number(out, line.number)?;
         push_bytes(out, b"\n")?;

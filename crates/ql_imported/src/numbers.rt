@@ -1,9 +1,9 @@
 // The numbers and names in the printed execution.
 
-use crate::texts::Texts;
-use crate::trace::Trace;
 use ql_base::{MAX_SESSIONS, Names, NoMemory, number_of, push_number};
 use ql_exec::Member;
+use ql_trace_files::IdTable;
+use ql_trace_files::Trace;
 use std::alloc::Global;
 use std::cmp::Ordering;
 
@@ -22,12 +22,12 @@ pub(crate) struct Numbers {
 
 /// The numbers for the kept lines of a trace.
 pub(crate) fn numbers_of(alloc: Global, trace: &Trace, kept: &[bool]) -> Result<Numbers, NoMemory> {
-    let mut objects = Numbering::new(alloc, trace.objects.len())?;
-    let mut txns = Numbering::new(alloc, trace.txns.len())?;
-    let mut sessions = Numbering::new(alloc, trace.sessions.len())?;
+    let mut objects = Numbering::new(alloc, trace.ids.objects.len())?;
+    let mut txns = Numbering::new(alloc, trace.ids.txns.len())?;
+    let mut sessions = Numbering::new(alloc, trace.ids.sessions.len())?;
     for k in 0..kept.len() {
         if kept[k] {
-            let line = &trace.lines[k];
+            let line = &trace.lines.items()[k];
             sessions.number(line.session.0)?;
             objects.number(line.object.0)?;
             if let Member::Inside(run, _) = line.member {
@@ -35,9 +35,9 @@ pub(crate) fn numbers_of(alloc: Global, trace: &Trace, kept: &[bool]) -> Result<
             }
         }
     }
-    let names = object_names(alloc, &trace.objects, &objects.listed)?;
+    let names = object_names(alloc, &trace.ids.objects, &objects.listed)?;
     Ok(Numbers {
-        sessions: session_numbers(alloc, &trace.sessions, sessions.listed)?,
+        sessions: session_numbers(alloc, &trace.ids.sessions, sessions.listed)?,
         objects: objects.numbers,
         names,
         txns: txns.numbers,
@@ -73,7 +73,7 @@ impl Numbering {
 // Sessions keep their numbers, if all have one below the limit; else they are numbered in the order of their IDs.
 fn session_numbers(
     alloc: Global,
-    texts: &Texts,
+    texts: &IdTable,
     sessions: Vec<u32>,
 ) -> Result<Vec<Option<u32>>, NoMemory> {
     let mut numbers: Vec<Option<u32>> = Vec::new(alloc);
@@ -93,7 +93,7 @@ fn session_numbers(
 }
 
 // The number that a session's ID is, if it is below the limit.
-fn own_number(texts: &Texts, session: u32) -> Option<u32> {
+fn own_number(texts: &IdTable, session: u32) -> Option<u32> {
     let number = number_of(texts.text(session).as_bytes(), u64::from(MAX_SESSIONS) - 1)?;
     Some(number as u32)
 }
@@ -115,7 +115,7 @@ fn id_order(a: &str, b: &str) -> Ordering {
 }
 
 // Objects keep their IDs, if all are names; else they are named o1, o2 and so on.
-fn object_names(alloc: Global, texts: &Texts, objects: &[u32]) -> Result<Names, NoMemory> {
+fn object_names(alloc: Global, texts: &IdTable, objects: &[u32]) -> Result<Names, NoMemory> {
     let are_names = objects
         .iter()
         .all(|object| ql_base::is_name(texts.text(*object).as_bytes()));

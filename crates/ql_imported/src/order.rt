@@ -1,10 +1,10 @@
 // The order of what is recorded: each line after those that it refers to, and after the one before it in its session.
 
-use crate::line::Line;
 use crate::links::Link;
 use crate::queue::Queue;
-use crate::trace::Trace;
 use ql_base::NoMemory;
+use ql_trace_files::Trace;
+use ql_trace_files::TraceLine;
 use std::alloc::Global;
 
 /// What comes directly before the kept lines, and after them.
@@ -26,13 +26,13 @@ impl Steps {
     ) -> Result<Steps, NoMemory> {
         let mut steps = Steps::none(alloc, links.len())?;
         let mut latest: Vec<Option<u32>> = Vec::new(alloc);
-        latest.resize(trace.sessions.len() as usize, None)?;
+        latest.resize(trace.ids.sessions.len() as usize, None)?;
         for k in 0..links.len() {
             if kept[k] {
                 let own = k as u32;
                 steps.add_all(&links[k].seen, own)?;
                 steps.add_all(&links[k].deps, own)?;
-                let session = trace.lines[k].session.0 as usize;
+                let session = trace.lines.items()[k].session.0 as usize;
                 if let Some(previous) = latest[session] {
                     steps.add(previous, own)?;
                 }
@@ -99,13 +99,13 @@ pub(crate) fn first_unplaced<'a>(
     trace: &'a Trace,
     kept: &[bool],
     order: &[u32],
-) -> Result<Option<&'a Line>, NoMemory> {
+) -> Result<Option<&'a TraceLine>, NoMemory> {
     let mut missing = Vec::from_slice(alloc, kept)?;
     for line in order {
         missing[*line as usize] = false;
     }
     match missing.iter().position(|is_missing| *is_missing) {
-        Some(k) => Ok(Some(&trace.lines[k])),
+        Some(k) => Ok(Some(&trace.lines.items()[k])),
         None => Ok(None),
     }
 }

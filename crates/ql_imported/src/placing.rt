@@ -2,10 +2,10 @@
 
 use crate::bits::Bits;
 use crate::filling::fill;
-use crate::line::Line;
+use ql_trace_files::TraceLine;
 use crate::numbers::Numbers;
 use crate::order::Steps;
-use crate::trace::{Quiet, Trace};
+use ql_trace_files::{Quiet, Trace};
 use crate::views::Places;
 use indexmap::IndexMap;
 use ql_base::{DeclId, IdSet, NoMemory, ObjId, RunId, SessId};
@@ -84,7 +84,7 @@ impl Placed {
             placed.loud.push(false)?;
             placed.carried.push(None)?;
         }
-        for _ in 0..recorded.trace.objects.len() {
+        for _ in 0..recorded.trace.ids.objects.len() {
             placed.on_object.push(Vec::new(alloc))?;
         }
         Ok(placed)
@@ -96,7 +96,7 @@ impl Placed {
 
     /// The effects of a line's recorded view.
     pub(crate) fn recorded(&self, recorded: &Recorded<'_>, line: u32) -> Result<IdSet, NoMemory> {
-        let object = recorded.trace.lines[line as usize].object.0;
+        let object = recorded.trace.lines.items()[line as usize].object.0;
         let view = &recorded.views[line as usize];
         let mut seen = IdSet::new(recorded.alloc);
         for other in &self.on_object[object as usize] {
@@ -116,7 +116,7 @@ impl Placed {
         seen: IdSet,
         found: Option<Answered>,
     ) -> Result<(), NoMemory> {
-        let said = &recorded.trace.lines[line as usize];
+        let said = &recorded.trace.lines.items()[line as usize];
         let answered = self.answered(recorded, said, &seen, found)?;
         let is_loud = emits(&answered.payload);
         let draft = draft(recorded, said, answered, seen)?;
@@ -131,7 +131,7 @@ impl Placed {
     fn answered(
         &self,
         recorded: &Recorded<'_>,
-        line: &Line,
+        line: &TraceLine,
         seen: &IdSet,
         found: Option<Answered>,
     ) -> Result<Answered, NoMemory> {
@@ -167,7 +167,7 @@ impl Placed {
         effect: u32,
         is_loud: bool,
     ) -> Result<(), NoMemory> {
-        let said = &recorded.trace.lines[line as usize];
+        let said = &recorded.trace.lines.items()[line as usize];
         let carried = self.carried_by(recorded, line, is_loud)?;
         self.order.push(line)?;
         self.on_object[said.object.0 as usize].push(line)?;
@@ -185,7 +185,7 @@ impl Placed {
         line: u32,
         is_loud: bool,
     ) -> Result<Bits, NoMemory> {
-        let said = &recorded.trace.lines[line as usize];
+        let said = &recorded.trace.lines.items()[line as usize];
         let object = said.object.0 as usize;
         let view = &recorded.views[line as usize];
         let mut carried = recorded.places.none(recorded.alloc, object)?;
@@ -220,7 +220,7 @@ pub(crate) fn emits(payload: &Payload) -> bool {
 
 fn draft(
     recorded: &Recorded<'_>,
-    line: &Line,
+    line: &TraceLine,
     answered: Answered,
     seen: IdSet,
 ) -> Result<Draft, NoMemory> {

@@ -1,6 +1,6 @@
-use crate::trace::Trace;
 use ql_base::NoMemory;
 use ql_exec::Member;
+use ql_trace_files::Trace;
 use std::alloc::Global;
 
 /// The units of a trace: all kept lines of a transaction, or one line outside any.
@@ -19,9 +19,9 @@ impl Units {
             lines: Vec::new(alloc),
         };
         let mut of_txn: Vec<Option<u32>> = Vec::new(alloc);
-        of_txn.resize(trace.txns.len() as usize, None)?;
+        of_txn.resize(trace.ids.txns.len() as usize, None)?;
         for k in 0..kept.len() {
-            let unit = match trace.lines[k].member {
+            let unit = match trace.lines.items()[k].member {
                 Member::Alone => units.next(alloc)?,
                 Member::Inside(run, _) => match of_txn[run.0 as usize] {
                     Some(unit) => unit,

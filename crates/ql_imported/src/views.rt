@@ -2,8 +2,8 @@
 
 use crate::bits::Bits;
 use crate::links::Link;
-use crate::trace::Trace;
 use ql_base::NoMemory;
+use ql_trace_files::Trace;
 use std::alloc::Global;
 
 /// The lines of each object, numbered among themselves.
@@ -17,13 +17,13 @@ pub(crate) struct Places {
 
 impl Places {
     pub(crate) fn of(alloc: Global, trace: &Trace) -> Result<Places, NoMemory> {
-        let mut of = Vec::with_capacity(alloc, trace.lines.len())?;
+        let mut of = Vec::with_capacity(alloc, trace.lines.items().len())?;
         let mut lines = Vec::new(alloc);
-        for _ in 0..trace.objects.len() {
+        for _ in 0..trace.ids.objects.len() {
             lines.push(Vec::new(alloc))?;
         }
-        for k in 0..trace.lines.len() {
-            let object = trace.lines[k].object.0 as usize;
+        for k in 0..trace.lines.items().len() {
+            let object = trace.lines.items()[k].object.0 as usize;
             of.push(lines[object].len())?;
             lines[object].push(k as u32)?;
         }
@@ -48,7 +48,7 @@ pub(crate) fn recorded_views(
     let reached = reached_lines(alloc, links, order)?;
     let mut views = Vec::with_capacity(alloc, links.len())?;
     for k in 0..links.len() {
-        let object = trace.lines[k].object.0 as usize;
+        let object = trace.lines.items()[k].object.0 as usize;
         let mut view = places.none(alloc, object)?;
         for line in &links[k].seen {
             view.insert(places.of[*line as usize]);

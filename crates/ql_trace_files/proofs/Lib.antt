@@ -1,4 +1,6 @@
+mod Faults
 mod Files
 mod Places
+mod Positions
 mod Scans
 mod Tables

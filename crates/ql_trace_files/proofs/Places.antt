@@ -1,13 +1,12 @@
 -- A table of places, as it grows.
-use Rattle.std.proofs.Common.{◌≡◌, ◌<◌, ◌≤◌, ◌+◌, ℕ, suc, Bool, true, false, cond, eqb, List, [], ◌∷◌, ◌++◌, length, get_or, set, Option, None, Some, refl, sym, ap, ◌∙◌, arith, subst}
-use Rattle.std.specs.Prelude.{nat_eq, nat_lt, slice_get}
-use Rattle.std.specs.List.{position, position_or_len}
+use Rattle.std.proofs.Common.{◌≡◌, ◌<◌, ℕ, zero, suc, Bool, true, false, List, [], ◌∷◌, ◌++◌, length, get_or, set, Option, None, Some, refl, sym, ap, ◌∙◌, arith, subst}
+use Rattle.std.specs.Prelude.{is_none, nat_eq, slice_get}
+use Rattle.std.specs.List.{position}
 use Rattle.std.specs.Option.{unwrap_or}
 use Rattle.std.proofs.lemmas.Bool.Decides.{nat_tests}
-use Rattle.std.proofs.lemmas.List.{length-append, get_or-set_same, get_or-set_other}
-use Rattle.std.proofs.lemmas.List.Folds.{position_or_len_push}
-use Rattle.std.proofs.lemmas.Option.{unwrap_or-slice_get}
-use Rattle.ql_trace_files.proofs.Tables.{position-grows}
+use Rattle.std.proofs.lemmas.List.{get_or-set_same, get_or-set_other}
+use Rattle.std.proofs.lemmas.Option.{get_or_from_slice_get, unwrap_or-slice_get}
+use Rattle.ql_trace_files.proofs.Positions.{position-grows, pushed}
 use Rattle.ql_trace_files.specs.LinePlaces.{HasPlaces, entry_of}
 
 abbrev Entries : Type 0
@@ -22,38 +21,6 @@ grown (p ∷ places) (suc n) = grown places n
 -- one more entry with no place
 pub has-grown : (places : Entries) (ids : List ℕ) → HasPlaces places ids → HasPlaces (places ++ None ∷ []) ids
 has-grown places ids has n = unwrap_or-slice_get (places ++ None ∷ []) n None ∙ grown places n ∙ sym (unwrap_or-slice_get places n None) ∙ has n
-
-place-within : {X : Type 0} (q : X → Bool) (xs : List X) → position_or_len q xs ≤ length xs
-place-within q [] = omega arith
-place-within q (x ∷ xs) = by (place-within q xs) (q x) where
-  by : position_or_len q xs ≤ length xs → (b : Bool) → cond b 0 (1 + position_or_len q xs) ≤ 1 + length xs
-  by le true = omega arith
-  by le false = omega (arith, le)
-
-module _ {X : Type 0} (q : X → Bool) (y : X) where
-  -- what isn't there is found last or not
-  pushed : (xs : List X) → position q xs ≡ None → position q (xs ++ y ∷ []) ≡ cond (q y) (Some (length xs)) None
-  pushed xs e = by (nat_lt (position_or_len q xs) (length xs)) refl e where
-    last : (b : Bool) → q y ≡ b → position_or_len q xs ≡ length xs → position q (xs ++ y ∷ []) ≡ cond b (Some (length xs)) None
-    last true t at =
-        let same : eqb (position_or_len q xs) (length xs) ≡ true = grind (arith, nat_tests, at) in
-        let found : position_or_len q (xs ++ y ∷ []) ≡ length xs + cond (q y) 0 1 = position_or_len_push q xs y ∙ rw same refl in
-        let here : position_or_len q (xs ++ y ∷ []) ≡ length xs = omega (arith, found, ap (λ (c : Bool). cond c 0 1) t) in
-        let longer = length-append xs (y ∷ []) in
-        let less : nat_lt (length xs) (length (xs ++ y ∷ [])) ≡ true = grind (arith, nat_tests, longer) in
-        rw (here, less) refl
-    last false t at =
-        let same : eqb (position_or_len q xs) (length xs) ≡ true = grind (arith, nat_tests, at) in
-        let found : position_or_len q (xs ++ y ∷ []) ≡ length xs + cond (q y) 0 1 = position_or_len_push q xs y ∙ rw same refl in
-        let longer = length-append xs (y ∷ []) in
-        let past : position_or_len q (xs ++ y ∷ []) ≡ length (xs ++ y ∷ []) = omega (arith, found, longer, ap (λ (c : Bool). cond c 0 1) t) in
-        let less : nat_lt (position_or_len q (xs ++ y ∷ [])) (length (xs ++ y ∷ [])) ≡ false = grind (arith, nat_tests, past) in
-        rw less refl
-    by : (b : Bool) → nat_lt (position_or_len q xs) (length xs) ≡ b → cond b (Some (position_or_len q xs)) None ≡ None → position q (xs ++ y ∷ []) ≡ cond (q y) (Some (length xs)) None
-    by true t h = absurd cc
-    by false t h =
-        let within = place-within q xs in
-        last (q y) refl (grind (arith, nat_tests, t, within))
 
 -- another number's place stays
 other : (ids : List ℕ) (number n : ℕ) (o : Option ℕ) → position (nat_eq n) ids ≡ o → nat_eq n number ≡ false → position (nat_eq n) (ids ++ number ∷ []) ≡ o
@@ -85,3 +52,16 @@ module _ (places : Entries) (ids : List ℕ) (number : ℕ) (has : HasPlaces pla
         let same : n ≡ number = grind (arith, nat_tests, t) in
         let none : position (nat_eq n) ids ≡ None = sym (place n) ∙ ap (λ (m : ℕ). get_or places m None) same ∙ at in
         ap (λ (m : ℕ). get_or (set places number (Some (length ids))) m None) same ∙ get_or-set_same places number (Some (length ids)) None less ∙ sym (pushed (nat_eq n) number ids none ∙ rw t refl)
+
+is-none : (o : Option ℕ) → is_none o ≡ true → o ≡ None
+is-none None e = refl
+is-none (Some k) e = absurd cc
+
+pub has-noted : (places : Entries) (ids : List ℕ) (number at : ℕ) → HasPlaces places ids → length ids ≡ at → number < length places → (o : Option ℕ) → slice_get places number ≡ Some o → is_none o ≡ true
+    → HasPlaces (set places number (Some at)) (ids ++ number ∷ [])
+has-noted places ids number at has count less o e none =
+    subst (λ (k : ℕ). HasPlaces (set places number (Some k)) (ids ++ number ∷ [])) count (has-new places ids number has less (get_or_from_slice_get places number o None e ∙ is-none o none))
+
+pub has-kept : (places : Entries) (ids : List ℕ) (number : ℕ) → HasPlaces places ids → (o : Option ℕ) → slice_get places number ≡ Some o → is_none o ≡ false → HasPlaces places (ids ++ number ∷ [])
+has-kept places ids number has None e none = absurd cc
+has-kept places ids number has (Some k) e none = has-again places ids number has k (get_or_from_slice_get places number (Some k) None e)

@@ -1,31 +1,16 @@
 -- Texts in tables: a text keeps its number as others are added.
-use Rattle.std.proofs.Common.{◌≡◌, ◌<◌, ◌+◌, ℕ, suc, Bool, true, false, cond, eqb, List, [], ◌∷◌, ◌++◌, length, map, take, get_or, Option, None, Some, refl, sym, ap, ◌∙◌, arith, subst}
-use Rattle.std.specs.Prelude.{nat_lt, if◌then◌else◌}
-use Rattle.std.specs.List.{fold, list_any, position, position_or_len, AllZip}
+use Rattle.std.proofs.Common.{◌≡◌, ◌<◌, ◌+◌, ℕ, Bool, true, false, List, [], ◌∷◌, ◌++◌, length, map, take, get_or, Option, None, Some, refl, sym, ap, ◌∙◌}
+use Rattle.std.specs.Prelude.{if◌then◌else◌}
+use Rattle.std.specs.List.{fold}
 use Rattle.std.specs.Option.{option_map, unwrap_or}
 use Rattle.std.specs.Str.{bytes_eq}
-use Rattle.std.proofs.lemmas.Bool.Decides.{nat_tests}
-use Rattle.std.proofs.lemmas.List.{length-append, map_push, take_more}
-use Rattle.std.proofs.lemmas.List.Folds.{position_or_len_push}
+use Rattle.std.proofs.lemmas.List.{map_push, take_more}
+use Rattle.std.proofs.lemmas.Slice.Eq.{bytes_eq-Decides}
 use Rattle.std.proofs.lemmas.List.Sums.{fold-append}
 use Rattle.ql_base.specs.Numbering.{has_name, place, with_name}
+use Rattle.ql_trace_files.proofs.Positions.{position-grows, position-none, pushed}
 use Rattle.ql_trace_files.specs.Numbers.{AreCountsNumbered, AreNumbered, IsCountNumbered, IsDotNumbered, dot_in, id_number, with_counts, with_names}
 use Rattle.ql_trace_files.specs.declared.trace_line.CallDot.{CallDot}
-
--- a place stays as the list grows
-module _ {X : Type 0} (p : X → Bool) (y : X) (k : ℕ) where
-  pub position-grows : (xs : List X) → position p xs ≡ Some k → position p (xs ++ y ∷ []) ≡ Some k
-  position-grows xs e =
-      by (nat_lt (position_or_len p xs) (length xs)) refl e where
-    by : (b : Bool) → nat_lt (position_or_len p xs) (length xs) ≡ b → cond b (Some (position_or_len p xs)) None ≡ Some k → position p (xs ++ y ∷ []) ≡ Some k
-    by false t h = absurd cc
-    by true t h =
-        let less : position_or_len p xs < length xs = grind (arith, nat_tests, t) in
-        let apart : eqb (position_or_len p xs) (length xs) ≡ false = grind (arith, nat_tests, less) in
-        let same : position_or_len p (xs ++ y ∷ []) ≡ position_or_len p xs = position_or_len_push p xs y ∙ rw apart refl in
-        let longer = length-append xs (y ∷ []) in
-        let still : nat_lt (position_or_len p xs) (length (xs ++ y ∷ [])) ≡ true = grind (arith, nat_tests, longer, less) in
-        rw (same, still) h
 
 pub kept-with : (table : List (List ℕ)) (w v : List ℕ) (k : ℕ) → place table w ≡ Some k → place (with_name table v) w ≡ Some k
 kept-with table w v k e = by (has_name table v) where
@@ -105,8 +90,7 @@ counts-more table cs ds c d h is = counts-push (with_name table c.0) cs ds c d (
 pub dot-is : (table : List (List ℕ)) (c : List ℕ × ℕ) (d : CallDot) → IsCountNumbered table c d → d ≡ dot_in table c
 dot-is table c d h =
     let origin : id_number table c.0 ≡ d.origin = ap (λ o. unwrap_or o 0) h.0 in
-    let count : c.1 ≡ d.count = h.1 in
-    cc
+    sym (ap (λ (o : ℕ). record { origin = o; count = c.1 }) origin ∙ ap (λ (n : ℕ). record { origin = d.origin; count = n }) h.1)
 
 pub dots-are : (table : List (List ℕ)) (cs : List (List ℕ × ℕ)) (ds : List CallDot) → AreCountsNumbered table cs ds → ds ≡ map (dot_in table) cs
 dots-are table [] [] h = refl
@@ -124,3 +108,14 @@ maybe-dot-is table (Some c) (Some d) h = ap Some (dot-is table c d h)
 pub names-more : (table : List (List ℕ)) {X : Type 0} (text : X → List ℕ) (xs : List X) (k : ℕ) (x : X) → k < length xs → x ≡ get_or xs k x
     → with_names table (map text (take (k + 1) xs)) ≡ with_name (with_names table (map text (take k xs))) (text x)
 names-more table text xs k x lt at = rw (take_more xs k x lt, map_push text (take k xs) (get_or xs k x), fold-append with_name table (map text (take k xs)) (text (get_or xs k x) ∷ []), ← at) refl
+
+-- ---- a text that is there, and one that is new
+
+pub there : (table : List (List ℕ)) (w : List ℕ) → has_name table w ≡ true → table ≡ with_name table w
+there table w e = rw e refl
+
+pub added : (table : List (List ℕ)) (w : List ℕ) → has_name table w ≡ false → table ++ w ∷ [] ≡ with_name table w
+added table w e = rw e refl
+
+pub placed-last : (table : List (List ℕ)) (w : List ℕ) → has_name table w ≡ false → place (table ++ w ∷ []) w ≡ Some (length table)
+placed-last table w e = pushed (bytes_eq w) w table (position-none (bytes_eq w) table e) ∙ rw ((bytes_eq-Decides w w).1 refl) refl

@@ -1,6 +1,5 @@
-ghost use Rattle.std.specs.Prelude.{◌≡◌, ◌<◌, ◌^◌, [], Some, IfOk, length, slice_get};
-ghost use Rattle.std.specs.List.{fold};
-ghost use Rattle.ql_base.specs.Numbering.{place, with_name};
+ghost use Rattle.std.specs.Prelude.{◌≡◌, ◌<◌, ◌++◌, ◌∷◌, [], false, is_some, Some, IfOk, length, slice_get};
+ghost use Rattle.ql_base.specs.Numbering.{has_name, place, with_name};
 ghost use Rattle.ql_trace.specs.Ids.{id_text};
 
 use indexmap::IndexSet;
@@ -63,9 +62,26 @@ impl IdTable {
         ensures texts { IfOk result (λ _. self.new ≡ with_name self.old text.now) }
         ensures numbered { IfOk result (λ k. place self.new text.now ≡ Some k) }
     {
-        if let Some(k) = self.texts.get_index_of(text) {
-            return Ok(k as u32);
+        match self.find(text) {
+            Some(k) => Ok(k),
+            None => self.add(alloc, text),
         }
+    }
+
+    fn find(&self, text: &str) -> Option<u32>
+        ensures numbered { result ≡ place self.now text.now }
+        ensures known { is_some result ≡ has_name self.now text.now }
+    {
+        let k = self.texts.get_index_of(text)?;
+        Some(k as u32)
+    }
+
+    // Adds a new text at the end.
+    fn add(&mut self, alloc: Global, text: &str) -> Result<u32, NoMemory>
+        requires new { has_name self.old text.now ≡ false }
+        ensures texts { IfOk result (λ _. self.new ≡ self.old ++ text.now ∷ []) }
+        ensures numbered { IfOk result (λ k. k ≡ length self.old) }
+    {
         let k = self.texts.len();
         if k >= u32::MAX as usize {
             return Err(NoMemory);
