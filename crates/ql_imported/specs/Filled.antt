@@ -1,6 +1,6 @@
 -- Who saw a quiet effect, where that isn't recorded, and the order by units. A placed line is loud where its effect emitted
 -- values, else quiet: so it does nothing in a fold.
-use Rattle.std.specs.Prelude.{◌≡◌, ◌⊎◌, ◌≤◌, ℕ, suc, Bool, true, false, List, [], ◌∷◌, ◌++◌, Option, None, Some, slice_get}
+use Rattle.std.specs.Prelude.{◌≡◌, ◌⊎◌, ◌↔◌, ◌≤◌, ℕ, suc, Bool, true, false, List, [], ◌∷◌, ◌++◌, Option, None, Some, slice_get}
 use Rattle.ql_base.specs.IdLists.{has_id, IsAscending}
 use Rattle.ql_trace_files.specs.declared.trace_line.TraceLine.{TraceLine}
 use Rattle.ql_imported.specs.Before.{After, InView, IsFree, IsLowest, IsNext, IsReady, Kept, is_earlier, one_unit, same_object}
@@ -47,10 +47,16 @@ module _ (lines : List TraceLine) (placed : List ℕ) (loud : ℕ → Bool) wher
 
   -- ---- which lines are placed next
 
-  -- of the free units that whose next line is quiet goes before others, then that with the lowest next line; where no unit is
-  -- free, the lowest line that comes after placed lines alone is placed alone
   module _ (is_quiet : ℕ → Bool) where
-    pub data IsChosen : ℕ → Type 0 where
-      quiet_unit : (b : ℕ) → IsLowest (λ c. IsNext lines placed c × (is_quiet c ≡ true)) b → IsChosen b
-      loud_unit : (b : ℕ) → ((c : ℕ) → IsNext lines placed c → is_quiet c ≡ false) → IsLowest (IsNext lines placed) b → IsChosen b
-      alone : (b : ℕ) → ((c : ℕ) → IsFree lines placed c → ⊥) → IsLowest (IsReady lines placed) b → IsChosen b
+    -- of the free units that whose next line is quiet goes before others, then that with the lowest next line
+    pub data IsChosenUnit : ℕ → Type 0 where
+      quiet_unit : (b : ℕ) → IsLowest (λ c. IsNext lines placed c × (is_quiet c ≡ true)) b → IsChosenUnit b
+      loud_unit : (b : ℕ) → ((c : ℕ) → IsNext lines placed c → is_quiet c ≡ false) → IsLowest (IsNext lines placed) b → IsChosenUnit b
+
+  -- where no unit is free, the lowest line that comes after placed lines alone
+  abbrev pub IsChosenAlone : ℕ → Type 0
+  IsChosenAlone b = ((c : ℕ) → IsFree lines placed c → ⊥) × IsLowest (IsReady lines placed) b
+
+  -- the unplaced kept lines of b's unit, in order
+  abbrev pub AreUnplacedOf : ℕ → List ℕ → Type 0
+  AreUnplacedOf b bs = IsAscending bs × ((c : ℕ) → (has_id bs c ≡ true) ↔ (Kept lines c × (one_unit lines b c ≡ true) × (has_id placed c ≡ false)))
