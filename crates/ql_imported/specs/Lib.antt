@@ -1,3 +1,4 @@
 pub mod Before
 pub mod Filled
 pub mod Making
+pub mod Naming
