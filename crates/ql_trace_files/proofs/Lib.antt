@@ -4,3 +4,4 @@ mod Places
 mod Positions
 mod Scans
 mod Tables
+mod Told

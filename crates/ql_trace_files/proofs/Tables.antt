@@ -1,5 +1,5 @@
 -- Texts in tables: a text keeps its number as others are added.
-use Rattle.std.proofs.Common.{◌≡◌, ◌<◌, ◌+◌, ℕ, Bool, true, false, List, [], ◌∷◌, ◌++◌, length, map, take, get_or, Option, None, Some, refl, sym, ap, ◌∙◌}
+use Rattle.std.proofs.Common.{◌≡◌, ◌<◌, ◌+◌, ℕ, Bool, true, false, List, [], ◌∷◌, ◌++◌, length, map, take, get_or, Option, None, Some, refl, sym, subst, ap, ◌∙◌}
 use Rattle.std.specs.Prelude.{if◌then◌else◌}
 use Rattle.std.specs.List.{fold}
 use Rattle.std.specs.Option.{option_map, unwrap_or}
@@ -104,10 +104,42 @@ maybe-dot-is table None (Some d) h = absurd h
 maybe-dot-is table (Some c) None h = absurd h
 maybe-dot-is table (Some c) (Some d) h = ap Some (dot-is table c d h)
 
--- the texts of a list up to an item, and that item
-pub names-more : (table : List (List ℕ)) {X : Type 0} (text : X → List ℕ) (xs : List X) (k : ℕ) (x : X) → k < length xs → x ≡ get_or xs k x
-    → with_names table (map text (take (k + 1) xs)) ≡ with_name (with_names table (map text (take k xs))) (text x)
-names-more table text xs k x lt at = rw (take_more xs k x lt, map_push text (take k xs) (get_or xs k x), fold-append with_name table (map text (take k xs)) (text (get_or xs k x) ∷ []), ← at) refl
+-- ---- a loop's turn
+
+module _ {X : Type 0} (xs : List X) (k : ℕ) (x : X) (lt : k < length xs) (at : x ≡ get_or xs k x) where
+  pub map-more : {Y : Type 0} (f : X → Y) → map f (take (k + 1) xs) ≡ map f (take k xs) ++ f x ∷ []
+  map-more f = rw (take_more xs k x lt, map_push f (take k xs) (get_or xs k x), ← at) refl
+
+  module _ (start table after : List (List ℕ)) where
+    pub ids-step : (text : X → List ℕ) (ns ms : List ℕ) (n : ℕ) → table ≡ with_names start (map text (take k xs)) → AreNumbered table (map text (take k xs)) ns
+        → after ≡ with_name table (text x) → place after (text x) ≡ Some n → ms ≡ ns ++ n ∷ []
+        → (after ≡ with_names start (map text (take (k + 1) xs))) × AreNumbered after (map text (take (k + 1) xs)) ms
+    ids-step text ns ms n names numbered to placed more =
+        let texts = map-more text in
+        let w = text x in
+        let here : place (with_name table w) w ≡ Some n = subst (λ (t : List (List ℕ)). place t w ≡ Some n) to placed in
+        (
+          to ∙ ap (λ (t : List (List ℕ)). with_name t w) names ∙ sym (ap (with_names start) texts ∙ fold-append with_name start (map text (take k xs)) (w ∷ [])),
+          subst (λ (t : List (List ℕ)). AreNumbered t (map text (take (k + 1) xs)) ms) (sym to)
+          (subst (λ (ws : List (List ℕ)). AreNumbered (with_name table w) ws ms) (sym texts)
+          (subst (λ (os : List ℕ). AreNumbered (with_name table w) (map text (take k xs) ++ w ∷ []) os) (sym more) (numbered-more table (map text (take k xs)) ns w n numbered here))),
+        )
+
+    pub dots-step : (count : X → List ℕ × ℕ) (ds es : List CallDot) (d : CallDot) → table ≡ with_counts start (map count (take k xs)) → AreCountsNumbered table (map count (take k xs)) ds
+        → after ≡ with_name table (count x).0 → IsCountNumbered after (count x) d → es ≡ ds ++ d ∷ []
+        → (after ≡ with_counts start (map count (take (k + 1) xs))) × AreCountsNumbered after (map count (take (k + 1) xs)) es
+    dots-step count ds es d names numbered to is more =
+        let counts = map-more count in
+        let c = count x in
+        let cs = map count (take k xs) in
+        let here : IsCountNumbered (with_name table c.0) c d = subst (λ (t : List (List ℕ)). IsCountNumbered t c d) to is in
+        (
+          to ∙ ap (λ (t : List (List ℕ)). with_name t c.0) names
+          ∙ sym (ap (with_counts start) counts ∙ ap (with_names start) (map_push (λ (o : List ℕ × ℕ). o.0) cs c) ∙ fold-append with_name start (map (λ (o : List ℕ × ℕ). o.0) cs) (c.0 ∷ [])),
+          subst (λ (t : List (List ℕ)). AreCountsNumbered t (map count (take (k + 1) xs)) es) (sym to)
+          (subst (λ (os : List (List ℕ × ℕ)). AreCountsNumbered (with_name table c.0) os es) (sym counts)
+          (subst (λ (os : List CallDot). AreCountsNumbered (with_name table c.0) (cs ++ c ∷ []) os) (sym more) (counts-more table cs ds c d numbered here))),
+        )
 
 -- ---- a text that is there, and one that is new
 
